@@ -1,0 +1,5 @@
+pub mod Model
+pub mod Calls
+pub mod Seals
+pub mod Reports
+pub mod Making

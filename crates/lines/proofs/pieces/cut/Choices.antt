@@ -1,0 +1,5 @@
+use Rattle.lines.proofs.Cutting.{Clear}
+use Rattle.lines.proofs.pieces.cut.Given as given
+
+abbrev pub Inv-loop-i : given.InvT-loop-i
+Inv-loop-i l = Clear (l .separator) (l .bytes) (l .i)

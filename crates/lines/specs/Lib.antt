@@ -1,0 +1,5 @@
+pub mod Cut
+pub mod Digits
+pub mod Grammar
+pub mod Left
+pub mod Views

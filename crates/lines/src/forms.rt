@@ -1,0 +1,102 @@
+// Reads a line by its form, which its first word names.
+ghost use mathlib.Core.Path.{_≡_};
+ghost use Rattle.std.specs.Options.{mapped};
+ghost use Rattle.std.specs.Vec.{made};
+ghost use Rattle.lines.specs.Grammar.{advanceForm, benchForm, itemForm, readLine, sealForm, setForm, startForm, turnForm};
+ghost use Rattle.lines.specs.Left.{ahead};
+ghost use Rattle.lines.specs.Views.{viewed};
+use crate::line::Line;
+use crate::words::Words;
+use std::alloc::AllocError;
+use std::alloc::Global;
+
+// The line, without its newline; None where it is unreadable.
+pub fn read(heap: Global, line: &[u8]) -> Result<Option<Line>, AllocError>
+    ensures { λ r. ⌜ made r (λ o. mapped viewed o ≡ readLine (now (line .entry))) ⌝ }
+{
+    let mut words = Words::new(line);
+    let Some(form) = words.text() else {
+        return Ok(None);
+    };
+    match form {
+        "bench" => Ok(bench(words)),
+        "item" => Ok(item(words)),
+        "start" => Ok(start(words)),
+        "set" => Ok(set(words)),
+        "turn" => Ok(turn(words)),
+        "advance" => Ok(advance(words)),
+        "seal" => seal(heap, words),
+        _ => Ok(None),
+    }
+}
+
+fn bench(mut words: Words<'_>) -> Option<Line>
+    ensures { λ r. ⌜ mapped viewed r ≡ benchForm (ahead (words .entry)) ⌝ }
+{
+    let n = words.number()?;
+    let f = words.number()?;
+    let d = words.number()?;
+    let e = words.number()?;
+    words.end()?;
+    Some(Line::Bench { n, f, d, e })
+}
+
+fn item(mut words: Words<'_>) -> Option<Line>
+    ensures { λ r. ⌜ mapped viewed r ≡ itemForm (ahead (words .entry)) ⌝ }
+{
+    let sender = words.number()?;
+    let reading = words.number()?;
+    words.end()?;
+    Some(Line::Item { sender, reading })
+}
+
+fn start(mut words: Words<'_>) -> Option<Line>
+    ensures { λ r. ⌜ mapped viewed r ≡ startForm (ahead (words .entry)) ⌝ }
+{
+    let kind = words.kind()?;
+    let scheme = words.scheme()?;
+    words.end()?;
+    Some(Line::Start { kind, scheme })
+}
+
+fn set(mut words: Words<'_>) -> Option<Line>
+    ensures { λ r. ⌜ mapped viewed r ≡ setForm (ahead (words .entry)) ⌝ }
+{
+    let processor = words.number()?;
+    let offset = words.number()?;
+    words.end()?;
+    Some(Line::Set { processor, offset })
+}
+
+fn turn(mut words: Words<'_>) -> Option<Line>
+    ensures { λ r. ⌜ mapped viewed r ≡ turnForm (ahead (words .entry)) ⌝ }
+{
+    let processor = words.number()?;
+    words.end()?;
+    Some(Line::Turn { processor })
+}
+
+fn advance(mut words: Words<'_>) -> Option<Line>
+    ensures { λ r. ⌜ mapped viewed r ≡ advanceForm (ahead (words .entry)) ⌝ }
+{
+    let ticks = words.number()?;
+    words.end()?;
+    Some(Line::Advance { ticks })
+}
+
+fn seal(heap: Global, mut words: Words<'_>) -> Result<Option<Line>, AllocError>
+    ensures { λ r. ⌜ made r (λ o. mapped viewed o ≡ sealForm (ahead (words .entry))) ⌝ }
+{
+    let Some(processor) = words.number() else {
+        return Ok(None);
+    };
+    let Some(text) = words.byte_string(heap)? else {
+        return Ok(None);
+    };
+    Ok(
+        match words.end() {
+            Some(()) => Some(Line::Seal { processor, text }),
+            None => None,
+        },
+    )
+}

@@ -1,0 +1,23 @@
+// A line of a run script that was read.
+#[derive(Drop)]
+pub enum Line {
+    Bench { n: u32, f: u32, d: u32, e: u32 },
+    Item { sender: u32, reading: u32 },
+    Start { kind: KindWord, scheme: SchemeWord },
+    Set { processor: u32, offset: u32 },
+    Turn { processor: u32 },
+    Advance { ticks: u32 },
+    Seal { processor: u32, text: Vec<u8> },
+}
+
+#[derive(Clone, Copy)]
+pub enum KindWord {
+    Setpoint,
+    Step,
+}
+
+#[derive(Clone, Copy)]
+pub enum SchemeWord {
+    Ledger,
+    Deck,
+}

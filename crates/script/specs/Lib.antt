@@ -1,0 +1,4 @@
+pub mod Printing
+pub mod Settings
+pub mod Calls
+pub mod Transcript

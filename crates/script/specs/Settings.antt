@@ -1,0 +1,53 @@
+-- The lines before the start.
+use mathlib.Core.List.{List, [], _∷_, _++_}
+use Prim.Native.Nat.{ℕ}
+use Rattle.std.specs.Of.Vec.{vec-items}
+use Rattle.std.specs.declared.option.Option.{Option}
+use Rattle.std.specs.declared.option.Option.the-variants.{Some, None}
+use Rattle.plans.specs.declared.plan.Appointment.{Appointment}
+use Rattle.lines.specs.Grammar.{LineRead, bench, item, start, set, turn, advance, seal}
+use Rattle.script.specs.declared.setting.Sizes.{Sizes}
+use Rattle.script.specs.declared.setting.Setting.{Setting}
+use Rattle.script.specs.declared.setting.Heard.{Heard}
+use Rattle.script.specs.declared.setting.Heard.the-variants.{Kept, OutOfOrder, Start}
+
+-- the sizes, once they are set, and the items so far
+pub record Set : Type 0 where
+  pub sizes : Option Sizes
+  pub agenda : List Appointment
+
+abbrev pub settingOf : Setting → Set
+settingOf s = record { sizes = s .sizes; agenda = vec-items (s .agenda) }
+
+-- before the first line
+abbrev pub unset : Set
+unset = record { sizes = None; agenda = [] }
+
+-- first comes `bench`, once
+abbrev pub setsSizes : Option Sizes → Sizes → Set → Heard × Set
+setsSizes None z s = (Kept, record { sizes = Some z; agenda = s .agenda })
+setsSizes (Some y) z s = (OutOfOrder, s)
+
+-- then any number of `item`
+abbrev pub addsItem : Option Sizes → Appointment → Set → Heard × Set
+addsItem None a s = (OutOfOrder, s)
+addsItem (Some z) a s = (Kept, record { sizes = s .sizes; agenda = s .agenda ++ (a ∷ []) })
+
+-- and then `start`
+abbrev pub starts : Option Sizes → (Sizes → Heard) → Set → Heard × Set
+starts None begin s = (OutOfOrder, s)
+starts (Some z) begin s = (begin z, s)
+
+abbrev pub heardLine : LineRead → Set → Heard × Set
+heardLine (bench n f d e) s = setsSizes (s .sizes) (record { n = n; f = f; d = d; e = e }) s
+heardLine (item sender reading) s = addsItem (s .sizes) (record { sender = sender; reading = reading }) s
+heardLine (start kind scheme) s = starts (s .sizes) (λ z. Start z kind scheme) s
+heardLine (set p offset) s = (OutOfOrder, s)
+heardLine (turn p) s = (OutOfOrder, s)
+heardLine (advance k) s = (OutOfOrder, s)
+heardLine (seal p text) s = (OutOfOrder, s)
+
+-- a line before the start, None where it is unreadable
+abbrev pub heard : Option LineRead → Set → Heard × Set
+heard None s = (OutOfOrder, s)
+heard (Some line) s = heardLine line s
