@@ -1,17 +1,13 @@
 -- How bytes are cut at a separator. Assumes nothing.
 use mathlib.Core.Path.{_≡_, refl, sym, ap, _∙_}
-use mathlib.Core.Bool.{Bool, true, false, not, cond}
+use mathlib.Core.Bool.{false}
 use mathlib.Core.List.{List, [], _∷_}
 use Prim.Native.Nat.{ℕ, zero, suc, _<_}
 use native.Mathlib.Omega.{arith}
 use lib.Dec.{eqb}
 use lib.ListN.{length, getD, take, drop}
-use denote.Ref.{RefT}
-use Rattle.std.specs.Options.{isSome, mapped}
 use Rattle.std.proofs.shelf.Tests.{cond-true, cond-false, cond-both, eq-eqb, ne-eqb}
-use Rattle.std.specs.declared.option.Option.{Option}
-use Rattle.std.specs.declared.option.Option.the-variants.{Some, None}
-use Rattle.lines.specs.Cut.{pieces, piecesOf, onto, isNil}
+use Rattle.lines.specs.Cut.{pieces, onto, isNil}
 
 -- no byte before index i is the separator
 abbrev pub Clear : ℕ → List ℕ → ℕ → Type 0
@@ -35,12 +31,6 @@ onto-some b [] = refl
 onto-some b (p ∷ ps) = refl
 
 -- there is always a piece
-pieces-some : (sep : ℕ) (bs : List ℕ) → isNil (pieces sep bs) ≡ false
+pub pieces-some : (sep : ℕ) (bs : List ℕ) → isNil (pieces sep bs) ≡ false
 pieces-some sep [] = refl
 pieces-some sep (b ∷ bs) = cond-both (eqb b sep) ([] ∷ pieces sep bs) (onto b (pieces sep bs)) (λ ps. isNil ps ≡ false) (λ _. refl) (λ _. onto-some b (pieces sep bs))
-
-pub none-left : (sep : ℕ) (o : Option (RefT (List ℕ))) (r : Bool) → isSome o ≡ not r → r ≡ isNil (piecesOf sep (mapped (λ x. x .now) o))
-none-left sep None true e = refl
-none-left sep None false e = e
-none-left sep (Some bs) true e = e ∙ sym (pieces-some sep (bs .now))
-none-left sep (Some bs) false e = sym (pieces-some sep (bs .now))

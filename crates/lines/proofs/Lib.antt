@@ -1,3 +1,4 @@
+-- The lemmas of this crate.
 mod Cutting
 mod Naming
 mod Reading

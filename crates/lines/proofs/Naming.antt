@@ -14,9 +14,9 @@ use Rattle.std.proofs.shelf.Tests.{and-parts, cases-bool, cond-false, ltb-true}
 use Rattle.std.proofs.shelf.Text.{utf8-from-ascii}
 use Rattle.std.specs.declared.option.Option.{Option}
 use Rattle.std.specs.declared.option.Option.the-variants.{Some, None}
-use Rattle.lines.specs.Cut.{head, pieces, tail}
+use Rattle.lines.specs.Cut.{head, tail}
 use Rattle.lines.specs.Digits.{andThen}
-use Rattle.lines.specs.Grammar.{Words, forms, named, readLine, word}
+use Rattle.lines.specs.Grammar.{WordList, forms, lineForm, named}
 use Rattle.lines.specs.Left.{NoText}
 
 unlike : (a b : List ℕ) → (b ≡ a → ⊥) → sameBytes a b ≡ false
@@ -27,7 +27,7 @@ not-named [] w none = refl
 not-named (e ∷ es) w none = cond-false _ _ _ (unlike (e .0) w (none .0)) ∙ not-named es w (none .1)
 
 -- a text that is none of a table's words
-pub unknown : {A : Type 0} (es : List (List ℕ × A)) (w : List ℕ) (words : Words) → Some w ≡ head words → All (λ e. w ≡ e .0 → ⊥) es → None ≡ andThen (head words) (named es)
+pub unknown : {A : Type 0} (es : List (List ℕ × A)) (w : List ℕ) (words : WordList) → Some w ≡ head words → All (λ e. w ≡ e .0 → ⊥) es → None ≡ andThen (head words) (named es)
 unknown es w words is none = sym (ap (λ o. andThen o (named es)) (sym is) ∙ not-named es w none)
 
 abbrev plain : List ℕ → Bool
@@ -49,10 +49,10 @@ no-plain-word (e ∷ es) w p no-text =
     (λ same. no-text (subst Utf8 (sym same) (utf8-from-ascii (e .0) (ascii-from-all (e .0) (plain-all (e .0) (q .0))))), no-plain-word es w (q .1) no-text)
 
 -- no word, or one that is no text
-pub no-text : {A : Type 0} (es : List (List ℕ × A)) (words : Words) → plainWords es ≡ true → NoText words → None ≡ andThen (head words) (named es)
+pub no-text : {A : Type 0} (es : List (List ℕ × A)) (words : WordList) → plainWords es ≡ true → NoText words → None ≡ andThen (head words) (named es)
 no-text es [] p none = refl
 no-text es (w ∷ ws) p none = unknown es w (w ∷ ws) refl (no-plain-word es w p (none w refl))
 
 -- a line whose first word names no form
-pub no-form : (line : List ℕ) (words : Words) → words ≡ pieces 32 line → None ≡ andThen (head words) (named forms) → None ≡ readLine line
-no-form line words are none = ap (λ o. andThen o (λ form. form (tail words))) none ∙ ap (word (named forms) (λ form. form)) are
+pub no-form : (words : WordList) → None ≡ andThen (head words) (named forms) → None ≡ lineForm words
+no-form words none = ap (λ o. andThen o (λ form. form (tail words))) none

@@ -11,7 +11,7 @@ use Rattle.std.proofs.shelf.Lists.{at-drop-more, at-drop-all, take-rest}
 use Rattle.std.proofs.shelf.Ways.{tells}
 use Rattle.std.specs.declared.option.Option.{Option}
 use Rattle.std.specs.declared.option.Option.the-variants.{Some, None}
-use Rattle.lines.specs.Digits.{andThen, decimalOf, digitOf, decimalsOf, byteOf, bytesOf}
+use Rattle.lines.specs.Digits.{andThen, decimalOf, decimalsOf, byteOf, bytesOf}
 
 decimal-lt : (b d : ℕ) → Some d ≡ decimalOf b → d < 10
 decimal-lt b d e = grind (arith, tells)
@@ -37,10 +37,10 @@ one-byte : (o : Option (List ℕ)) (b : ℕ) (xs ys : List ℕ) → ys ≡ xs ++
 one-byte None b xs ys e = refl
 one-byte (Some zs) b xs ys e = ap Some (sym (append-assoc xs (b ∷ []) zs) ∙ ap (λ v. v ++ zs) (sym e))
 
-pub two-digits : (rest : List ℕ) (h l : ℕ) (xs ys : List ℕ) → Some h ≡ digitOf (getD rest 0 0) → Some l ≡ digitOf (getD rest 1 0) → ys ≡ xs ++ (16 * h + l) ∷ [] → mapped (λ zs. xs ++ zs) (bytesOf rest) ≡ mapped (λ zs. ys ++ zs) (bytesOf (take (length rest - 2) (drop 2 rest)))
-two-digits [] h l xs ys eh el e = absurd (grind arith)
-two-digits (a ∷ []) h l xs ys eh el e = absurd (grind arith)
-two-digits (a ∷ b ∷ rest) h l xs ys eh el e =
-    let byte : byteOf a b ≡ Some (16 * h + l) = rw (← eh, ← el) refl in
-    ap (λ o. mapped (λ zs. xs ++ zs) (andThen o (λ x. mapped (λ zs. x ∷ zs) (bytesOf rest)))) byte ∙ one-byte (bytesOf rest) (16 * h + l) xs ys e
-    ∙ ap (λ t. mapped (λ zs. ys ++ zs) (bytesOf t)) (sym (take-rest (a ∷ b ∷ rest) 2))
+pub two-digits : (rest : List ℕ) (b : ℕ) (xs ys : List ℕ) → Some b ≡ byteOf (getD rest 0 0) (getD rest 1 0) → ys ≡ xs ++ b ∷ [] → mapped (λ zs. xs ++ zs) (bytesOf rest) ≡ mapped (λ zs. ys ++ zs) (bytesOf (take (length rest - 2) (drop 2 rest)))
+two-digits [] b xs ys is e = absurd (grind arith)
+two-digits (h ∷ []) b xs ys is e = absurd (grind arith)
+two-digits (h ∷ l ∷ rest) b xs ys is e =
+    ap (λ o. mapped (λ zs. xs ++ zs) (andThen o (λ x. mapped (λ zs. x ∷ zs) (bytesOf rest)))) (sym is)
+    ∙ one-byte (bytesOf rest) b xs ys e
+    ∙ ap (λ t. mapped (λ zs. ys ++ zs) (bytesOf t)) (sym (take-rest (h ∷ l ∷ rest) 2))

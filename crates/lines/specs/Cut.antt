@@ -1,8 +1,11 @@
 -- What bytes are cut into. Assumes nothing.
+use mathlib.Core.Path.{_≡_}
 use mathlib.Core.Bool.{Bool, true, false, cond}
 use mathlib.Core.List.{List, [], _∷_}
-use Prim.Native.Nat.{ℕ}
+use Prim.Native.Nat.{ℕ, _+_, _<_}
 use lib.Dec.{eqb}
+use lib.ListN.{length}
+use Rattle.std.specs.shelf.Lists.{between}
 use Rattle.std.specs.declared.option.Option.{Option}
 use Rattle.std.specs.declared.option.Option.the-variants.{Some, None}
 
@@ -15,6 +18,11 @@ onto b (p ∷ ps) = (b ∷ p) ∷ ps
 abbrev pub pieces : ℕ → List ℕ → List (List ℕ)
 pieces sep [] = [] ∷ []
 pieces sep (b ∷ bs) = cond (eqb b sep) ([] ∷ pieces sep bs) (onto b (pieces sep bs))
+
+-- the first piece ends at an index, where a separator is, or has no end
+abbrev pub CutAt : ℕ → List ℕ → Option ℕ → Type 0
+CutAt sep bs None = pieces sep bs ≡ bs ∷ []
+CutAt sep bs (Some i) = (i < length bs) × (pieces sep bs ≡ between 0 i bs ∷ pieces sep (between (i + 1) (length bs) bs))
 
 -- the pieces of the bytes that are left, if any are
 abbrev pub piecesOf : ℕ → Option (List ℕ) → List (List ℕ)

@@ -1,11 +1,11 @@
 -- What the digits of a number and of a byte string say. Assumes nothing.
-use mathlib.Core.Bool.{Bool, cond, _&&_}
+use mathlib.Core.Bool.{cond}
 use mathlib.Core.List.{List, [], _∷_}
 use Prim.Native.Nat.{ℕ, _+_, _-_, _*_}
 use lib.Chars.{codes}
-use lib.Dec.{leb}
 use lib.ListN.{length}
 use Rattle.std.specs.Options.{mapped}
+use Rattle.std.specs.Text.{within}
 use Rattle.std.specs.shelf.Text.{sameBytes}
 use Rattle.std.specs.declared.option.Option.{Option}
 use Rattle.std.specs.declared.option.Option.the-variants.{Some, None}
@@ -14,9 +14,6 @@ use Rattle.std.specs.declared.option.Option.the-variants.{Some, None}
 abbrev pub andThen : {A B : Type 0} → Option A → (A → Option B) → Option B
 andThen None k = None
 andThen (Some x) k = k x
-
-abbrev pub within : ℕ → ℕ → ℕ → Bool
-within low high n = leb low n && leb n high
 
 -- a decimal digit: the bytes 48 to 57 are `0` to `9`
 abbrev pub decimalOf : ℕ → Option ℕ

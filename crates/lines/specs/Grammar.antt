@@ -13,27 +13,15 @@ use Rattle.lines.specs.declared.line.SchemeWord.the-variants.{Ledger, Deck}
 use Rattle.lines.specs.Cut.{head, isNil, pieces, tail}
 use Rattle.lines.specs.Digits.{andThen, byteString, numberOf}
 
--- a line that was read
+-- what a line says
 pub data LineRead : Type 0 where
-  bench : ℕ → ℕ → ℕ → ℕ → LineRead
-  item : ℕ → ℕ → LineRead
-  start : KindWord → SchemeWord → LineRead
-  set : ℕ → ℕ → LineRead
-  turn : ℕ → LineRead
-  advance : ℕ → LineRead
-  seal : ℕ → List ℕ → LineRead
-
--- the words of a line that are still to come
-abbrev pub Words : Type 0
-Words = List (List ℕ)
-
--- the next word, read in one way, and then what follows it
-abbrev pub word : {A B : Type 0} → (List ℕ → Option A) → (A → Words → Option B) → Words → Option B
-word reading next words = andThen (andThen (head words) reading) (λ x. next x (tail words))
-
--- the line must end here
-abbrev pub end : LineRead → Words → Option LineRead
-end line words = cond (isNil words) (Some line) None
+  benchLine : ℕ → ℕ → ℕ → ℕ → LineRead
+  itemLine : ℕ → ℕ → LineRead
+  startLine : KindWord → SchemeWord → LineRead
+  setLine : ℕ → ℕ → LineRead
+  turnLine : ℕ → LineRead
+  advanceLine : ℕ → LineRead
+  sealLine : ℕ → List ℕ → LineRead
 
 -- what a table has under a word
 abbrev pub named : {A : Type 0} → List (List ℕ × A) → List ℕ → Option A
@@ -46,32 +34,47 @@ kinds = (codes "setpoint", Setpoint) ∷ (codes "step", Step) ∷ []
 abbrev pub schemes : List (List ℕ × SchemeWord)
 schemes = (codes "ledger", Ledger) ∷ (codes "deck", Deck) ∷ []
 
-abbrev pub number : {B : Type 0} → (ℕ → Words → Option B) → Words → Option B
+-- the words of a line that are still to come
+abbrev pub WordList : Type 0
+WordList = List (List ℕ)
+
+-- a line, or a part of one, from the words that are still to come; none where they are unreadable
+abbrev pub Form : Type 0
+Form = WordList → Option LineRead
+
+-- the next word, read in one way, and then the form that follows it
+abbrev pub word : {A : Type 0} → (List ℕ → Option A) → (A → Form) → Form
+word reading next ws = andThen (andThen (head ws) reading) (λ x. next x (tail ws))
+
+abbrev pub number : (ℕ → Form) → Form
 number = word numberOf
 
-abbrev pub benchForm : Words → Option LineRead
-benchForm = number (λ n. number (λ f. number (λ d. number (λ e. end (bench n f d e)))))
+-- the line ends here
+abbrev pub end : LineRead → Form
+end line ws = cond (isNil ws) (Some line) None
 
-abbrev pub itemForm : Words → Option LineRead
-itemForm = number (λ sender. number (λ reading. end (item sender reading)))
+abbrev pub benchForm : Form
+benchForm = number (λ n. number (λ f. number (λ d. number (λ e. end (benchLine n f d e)))))
 
-abbrev pub startForm : Words → Option LineRead
-startForm = word (named kinds) (λ kind. word (named schemes) (λ scheme. end (start kind scheme)))
+abbrev pub itemForm : Form
+itemForm = number (λ sender. number (λ reading. end (itemLine sender reading)))
 
-abbrev pub setForm : Words → Option LineRead
-setForm = number (λ processor. number (λ offset. end (set processor offset)))
+abbrev pub startForm : Form
+startForm = word (named kinds) (λ kind. word (named schemes) (λ scheme. end (startLine kind scheme)))
 
-abbrev pub turnForm : Words → Option LineRead
-turnForm = number (λ processor. end (turn processor))
+abbrev pub setForm : Form
+setForm = number (λ processor. number (λ offset. end (setLine processor offset)))
 
-abbrev pub advanceForm : Words → Option LineRead
-advanceForm = number (λ ticks. end (advance ticks))
+abbrev pub turnForm : Form
+turnForm = number (λ processor. end (turnLine processor))
 
-abbrev pub sealForm : Words → Option LineRead
-sealForm = number (λ processor. word byteString (λ text. end (seal processor text)))
+abbrev pub advanceForm : Form
+advanceForm = number (λ ticks. end (advanceLine ticks))
 
--- the form that a line's first word names
-abbrev pub forms : List (List ℕ × (Words → Option LineRead))
+abbrev pub sealForm : Form
+sealForm = number (λ processor. word byteString (λ text. end (sealLine processor text)))
+
+abbrev pub forms : List (List ℕ × Form)
 forms = (codes "bench", benchForm)
     ∷ (codes "item", itemForm)
     ∷ (codes "start", startForm)
@@ -81,6 +84,10 @@ forms = (codes "bench", benchForm)
     ∷ (codes "seal", sealForm)
     ∷ []
 
--- a line, of words with a space between each two
-abbrev pub readLine : List ℕ → Option LineRead
-readLine line = word (named forms) (λ form. form) (pieces 32 line)
+-- the first word names the form of the words after it
+abbrev pub lineForm : Form
+lineForm = word (named forms) (λ form. form)
+
+-- a line, whose words have one space (32) between each two
+unfoldable pub readLine : List ℕ → Option LineRead
+readLine line = lineForm (pieces 32 line)

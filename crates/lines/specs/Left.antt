@@ -1,4 +1,4 @@
--- The pieces that are still to come. Assumes nothing.
+-- The pieces and the words that are still to come. Assumes nothing.
 use mathlib.Core.Path.{_≡_}
 use mathlib.Core.List.{List}
 use Prim.Native.Nat.{ℕ}
@@ -16,6 +16,6 @@ left p = piecesOf (p .separator) (mapped (λ (r : RefT (List ℕ)). r .now) (p .
 abbrev pub ahead : Words → List (List ℕ)
 ahead w = left (w .parts)
 
--- no word is next, or its bytes are no text
+-- there is no next word, or its bytes are no text
 abbrev pub NoText : List (List ℕ) → Type 0
-NoText words = (w : List ℕ) → Some w ≡ head words → Utf8 w → ⊥
+NoText ws = (w : List ℕ) → Some w ≡ head ws → Utf8 w → ⊥

@@ -1,3 +1,4 @@
+-- The definitions that the contracts cite.
 pub mod Cut
 pub mod Digits
 pub mod Grammar

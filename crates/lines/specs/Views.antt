@@ -1,14 +1,14 @@
--- What a line that was read holds. Assumes nothing.
+-- What a line that was read says. Assumes nothing.
 use Rattle.std.specs.Of.Vec.{vec-items}
 use Rattle.lines.specs.declared.line.Line.{Line}
 use Rattle.lines.specs.declared.line.Line.the-variants.{Bench, Item, Start, Set, Turn, Advance, Seal}
-use Rattle.lines.specs.Grammar.{LineRead, bench, item, start, set, turn, advance, seal}
+use Rattle.lines.specs.Grammar.{LineRead, benchLine, itemLine, startLine, setLine, turnLine, advanceLine, sealLine}
 
 abbrev pub viewed : Line → LineRead
-viewed (Bench n f d e) = bench n f d e
-viewed (Item sender reading) = item sender reading
-viewed (Start kind scheme) = start kind scheme
-viewed (Set processor offset) = set processor offset
-viewed (Turn processor) = turn processor
-viewed (Advance ticks) = advance ticks
-viewed (Seal processor text) = seal processor (vec-items text)
+viewed (Bench n f d e) = benchLine n f d e
+viewed (Item sender reading) = itemLine sender reading
+viewed (Start kind scheme) = startLine kind scheme
+viewed (Set processor offset) = setLine processor offset
+viewed (Turn processor) = turnLine processor
+viewed (Advance ticks) = advanceLine ticks
+viewed (Seal processor text) = sealLine processor (vec-items text)

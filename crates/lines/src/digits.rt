@@ -1,9 +1,11 @@
 // Reads decimal numbers and hexadecimal byte strings.
 ghost use mathlib.Core.Path.{_≡_};
+ghost use Prim.Native.Nat.{_≤_};
+ghost use lib.ListN.{length};
 ghost use Rattle.std.specs.Of.Vec.{vec-items};
 ghost use Rattle.std.specs.Options.{mapped};
 ghost use Rattle.std.specs.Vec.{made};
-ghost use Rattle.lines.specs.Digits.{bytesOf, byteString, decimalOf, digitOf, numberOf};
+ghost use Rattle.lines.specs.Digits.{byteOf, bytesOf, byteString, decimalOf, decimalsOf, digitOf, numberOf};
 use std::alloc::AllocError;
 use std::alloc::Global;
 
@@ -27,15 +29,23 @@ pub fn digit(b: u8) -> Option<u8>
     }
 }
 
-// A number has 1 to 9 decimal digits, so that it fits.
+// A number has 1 to 9 decimal digits.
 pub fn number(word: &[u8]) -> Option<u32>
     ensures { λ r. ⌜ r ≡ numberOf (now (word .entry)) ⌝ }
 {
     if word.is_empty() || word.len() > 9 {
         return None;
     }
+    decimals(word)
+}
+
+// The number of so few digits fits.
+fn decimals(digits: &[u8]) -> Option<u32>
+    requires { ⌜ length (now digits) ≤ 9 ⌝ }
+    ensures { λ r. ⌜ r ≡ decimalsOf 0 (now (digits .entry)) ⌝ }
+{
     let mut value = 0;
-    for b in word {
+    for b in digits {
         value = 10 * value + u32::from(decimal(*b)?);
     }
     Some(value)
@@ -59,11 +69,17 @@ fn digit_pairs(heap: Global, digits: &[u8]) -> Result<Option<Vec<u8>>, AllocErro
     let mut bytes = Vec::new(heap);
     let mut rest = digits;
     while let [high, low, after @ ..] = rest {
-        let (Some(high), Some(low)) = (digit(*high), digit(*low)) else {
+        let Some(b) = byte(*high, *low) else {
             return Ok(None);
         };
-        bytes.push(16 * high + low)?;
+        bytes.push(b)?;
         rest = after;
     }
     Ok(if rest.is_empty() { Some(bytes) } else { None })
+}
+
+fn byte(high: u8, low: u8) -> Option<u8>
+    ensures { λ r. ⌜ r ≡ byteOf high low ⌝ }
+{
+    Some(16 * digit(high)? + digit(low)?)
 }

@@ -2,7 +2,7 @@
 ghost use mathlib.Core.Path.{_≡_};
 ghost use Rattle.std.specs.Options.{mapped};
 ghost use Rattle.std.specs.Vec.{made};
-ghost use Rattle.lines.specs.Grammar.{advanceForm, benchForm, itemForm, readLine, sealForm, setForm, startForm, turnForm};
+ghost use Rattle.lines.specs.Grammar.{advanceForm, benchForm, itemForm, lineForm, readLine, sealForm, setForm, startForm, turnForm};
 ghost use Rattle.lines.specs.Left.{ahead};
 ghost use Rattle.lines.specs.Views.{viewed};
 use crate::line::Line;
@@ -10,11 +10,17 @@ use crate::words::Words;
 use std::alloc::AllocError;
 use std::alloc::Global;
 
-// The line, without its newline; None where it is unreadable.
+// Reads a line's bytes, without its newline. None where the line is unreadable: another first word,
+// a word too few or too many, or a word of another form.
 pub fn read(heap: Global, line: &[u8]) -> Result<Option<Line>, AllocError>
     ensures { λ r. ⌜ made r (λ o. mapped viewed o ≡ readLine (now (line .entry))) ⌝ }
 {
-    let mut words = Words::new(line);
+    read_words(heap, Words::new(line))
+}
+
+fn read_words(heap: Global, mut words: Words<'_>) -> Result<Option<Line>, AllocError>
+    ensures { λ r. ⌜ made r (λ o. mapped viewed o ≡ lineForm (ahead (words .entry))) ⌝ }
+{
     let Some(form) = words.text() else {
         return Ok(None);
     };
@@ -93,10 +99,8 @@ fn seal(heap: Global, mut words: Words<'_>) -> Result<Option<Line>, AllocError>
     let Some(text) = words.byte_string(heap)? else {
         return Ok(None);
     };
-    Ok(
-        match words.end() {
-            Some(()) => Some(Line::Seal { processor, text }),
-            None => None,
-        },
-    )
+    if words.end().is_none() {
+        return Ok(None);
+    }
+    Ok(Some(Line::Seal { processor, text }))
 }

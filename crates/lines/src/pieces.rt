@@ -1,8 +1,7 @@
 // Cuts bytes at a separator: a text into lines, a line into words.
 ghost use mathlib.Core.Path.{_≡_};
-ghost use mathlib.Core.List.{_∷_};
 ghost use Rattle.std.specs.Options.{mapped};
-ghost use Rattle.lines.specs.Cut.{head, isNil, pieces, piecesOf, tail};
+ghost use Rattle.lines.specs.Cut.{CutAt, head, isNil, pieces, tail};
 ghost use Rattle.lines.specs.Left.{left};
 
 // The pieces that are still to come. Bytes with k separators have k + 1 pieces.
@@ -25,30 +24,41 @@ impl<'a> Pieces<'a> {
 
     // The next piece, None after the last.
     pub fn next(&mut self) -> Option<&'a [u8]>
-        ensures piece { λ r. ⌜ mapped now r ≡ head (left (now (self .entry))) ⌝ }
+        ensures value { λ r. ⌜ mapped now r ≡ head (left (now (self .entry))) ⌝ }
         ensures after { λ r. ⌜ left (now (self .exit)) ≡ tail (left (now (self .entry))) ⌝ }
     {
-        let (piece, rest) = cut(self.rest?, self.separator);
-        self.rest = rest;
-        Some(piece)
+        let bytes = self.rest?;
+        match find(bytes, self.separator) {
+            Some(i) => {
+                self.rest = Some(&bytes[i + 1..]);
+                Some(&bytes[0..i])
+            }
+            None => {
+                self.rest = None;
+                Some(bytes)
+            }
+        }
     }
 
     // Whether the last piece was given: no separator came after it.
     pub fn is_over(&self) -> bool
         ensures { λ r. ⌜ r ≡ isNil (left (now (self .entry))) ⌝ }
     {
-        self.rest.is_none()
+        match self.rest {
+            Some(_) => false,
+            None => true,
+        }
     }
 }
 
-// The first piece, and the bytes after its separator if it has one.
-fn cut(bytes: &[u8], separator: u8) -> (&[u8], Option<&[u8]>)
-    ensures { λ r. ⌜ pieces separator (now (bytes .entry)) ≡ now (r .0) ∷ piecesOf separator (mapped now (r .1)) ⌝ }
+// The index of the first separator.
+fn find(bytes: &[u8], separator: u8) -> Option<usize>
+    ensures { λ r. ⌜ CutAt separator (now (bytes .entry)) r ⌝ }
 {
     for (i, b) in bytes.iter().enumerate() {
         if *b == separator {
-            return (&bytes[0..i], Some(&bytes[i + 1..]));
+            return Some(i);
         }
     }
-    (bytes, None)
+    None
 }

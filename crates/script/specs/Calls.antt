@@ -10,7 +10,7 @@ use Rattle.refusals.specs.declared.refusal.Refusal.the-variants.{Line}
 use Rattle.bench.specs.Model.{Model}
 use Rattle.bench.specs.Calls.{lifted, turns, sets, advances}
 use Rattle.bench.specs.Seals.{seals}
-use Rattle.lines.specs.Grammar.{LineRead, bench, item, start, set, turn, advance, seal}
+use Rattle.lines.specs.Grammar.{LineRead, benchLine, itemLine, startLine, setLine, turnLine, advanceLine, sealLine}
 use Rattle.script.specs.declared.answer.Answer.{Answer}
 use Rattle.script.specs.declared.answer.Answer.the-variants.{Done, Number, Refused}
 
@@ -28,13 +28,13 @@ answering answer x = (answer (x .0), x .1)
 
 -- what a line answers and leaves, where z is the number of a new seal
 abbrev pub called : ℕ → LineRead → Model → Answer × Model
-called z (bench n f d e) m = (Refused Line, m)
-called z (item sender reading) m = (Refused Line, m)
-called z (start kind scheme) m = (Refused Line, m)
-called z (set p offset) m = answering doneOr (lifted (sets p offset) m)
-called z (turn p) m = answering doneOr (lifted (turns p) m)
-called z (advance k) m = answering numberOr (lifted (advances k) m)
-called z (seal p text) m = answering numberOr (seals z p text m)
+called z (benchLine n f d e) m = (Refused Line, m)
+called z (itemLine sender reading) m = (Refused Line, m)
+called z (startLine kind scheme) m = (Refused Line, m)
+called z (setLine p offset) m = answering doneOr (lifted (sets p offset) m)
+called z (turnLine p) m = answering doneOr (lifted (turns p) m)
+called z (advanceLine k) m = answering numberOr (lifted (advances k) m)
+called z (sealLine p text) m = answering numberOr (seals z p text m)
 
 -- an unreadable line is row 60
 abbrev pub answered : ℕ → Option LineRead → Model → Answer × Model

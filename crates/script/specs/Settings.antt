@@ -5,7 +5,7 @@ use Rattle.std.specs.Of.Vec.{vec-items}
 use Rattle.std.specs.declared.option.Option.{Option}
 use Rattle.std.specs.declared.option.Option.the-variants.{Some, None}
 use Rattle.plans.specs.declared.plan.Appointment.{Appointment}
-use Rattle.lines.specs.Grammar.{LineRead, bench, item, start, set, turn, advance, seal}
+use Rattle.lines.specs.Grammar.{LineRead, benchLine, itemLine, startLine, setLine, turnLine, advanceLine, sealLine}
 use Rattle.script.specs.declared.setting.Sizes.{Sizes}
 use Rattle.script.specs.declared.setting.Setting.{Setting}
 use Rattle.script.specs.declared.setting.Heard.{Heard}
@@ -39,13 +39,13 @@ starts None begin s = (OutOfOrder, s)
 starts (Some z) begin s = (begin z, s)
 
 abbrev pub heardLine : LineRead → Set → Heard × Set
-heardLine (bench n f d e) s = setsSizes (s .sizes) (record { n = n; f = f; d = d; e = e }) s
-heardLine (item sender reading) s = addsItem (s .sizes) (record { sender = sender; reading = reading }) s
-heardLine (start kind scheme) s = starts (s .sizes) (λ z. Start z kind scheme) s
-heardLine (set p offset) s = (OutOfOrder, s)
-heardLine (turn p) s = (OutOfOrder, s)
-heardLine (advance k) s = (OutOfOrder, s)
-heardLine (seal p text) s = (OutOfOrder, s)
+heardLine (benchLine n f d e) s = setsSizes (s .sizes) (record { n = n; f = f; d = d; e = e }) s
+heardLine (itemLine sender reading) s = addsItem (s .sizes) (record { sender = sender; reading = reading }) s
+heardLine (startLine kind scheme) s = starts (s .sizes) (λ z. Start z kind scheme) s
+heardLine (setLine p offset) s = (OutOfOrder, s)
+heardLine (turnLine p) s = (OutOfOrder, s)
+heardLine (advanceLine k) s = (OutOfOrder, s)
+heardLine (sealLine p text) s = (OutOfOrder, s)
 
 -- a line before the start, None where it is unreadable
 abbrev pub heard : Option LineRead → Set → Heard × Set

@@ -1,3 +1,4 @@
+-- The bytes so far and the digits that are left give the byte string.
 use mathlib.Core.Path.{_≡_}
 use mathlib.Core.List.{_++_}
 use lib.ListN.{length}

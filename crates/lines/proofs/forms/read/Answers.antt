@@ -1,14 +1,13 @@
-use mathlib.Core.Path.{refl}
-use Rattle.lines.specs.Grammar.{forms}
-use Rattle.lines.proofs.Naming.{no-form, no-text, unknown}
+-- The words of a line are its pieces.
+use mathlib.Core.Path.{_≡_, subst}
+use Rattle.std.specs.Options.{mapped}
+use Rattle.std.specs.Vec.{made}
+use Rattle.lines.specs.Grammar.{WordList, lineForm, readLine}
+use Rattle.lines.specs.Views.{viewed}
 use Rattle.lines.proofs.forms.read.Needs as need
 
-pub returns-in-rest : need.returns-in-rest
-returns-in-rest c = no-form (c .args .line .now) _ (c .new-words .ensures) (no-text forms _ refl (c .in-rest .ensures tt .value))
-
-pub returns-in-rest-form : need.returns-in-rest-form
-returns-in-rest-form c =
-    let w = c .in-rest-form in
-    no-form (c .args .line .now) _ (c .new-words .ensures)
-    (unknown forms _ _ (c .in-Some .ensures tt .value)
-    (w .not-bench, (w .not-item, (w .not-start, (w .not-set, (w .not-turn, (w .not-advance, (w .not-seal, tt))))))))
+pub returns : need.returns
+unfolding readLine
+returns c =
+    let P : WordList → Type 0 = λ ws. made (c .read-words .result) (λ o. mapped viewed o ≡ lineForm ws) in
+    subst P (c .new .ensures) (c .read-words .ensures)

@@ -1,3 +1,4 @@
+-- A word that names no kind.
 use mathlib.Core.Path.{refl, _∙_}
 use Rattle.lines.specs.Grammar.{kinds}
 use Rattle.lines.proofs.Naming.{no-text, unknown}

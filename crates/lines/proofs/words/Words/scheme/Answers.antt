@@ -1,3 +1,4 @@
+-- A word that names no scheme.
 use mathlib.Core.Path.{refl, _∙_}
 use Rattle.lines.specs.Grammar.{schemes}
 use Rattle.lines.proofs.Naming.{no-text, unknown}

@@ -1,8 +1,9 @@
+-- One more digit, a byte that is none, and the end of the digits.
 use mathlib.Core.Path.{sym, ap, _∙_}
 use native.Mathlib.Omega.{arith}
 use Rattle.std.specs.declared.option.Option.the-variants.{Some}
 use Rattle.lines.proofs.Reading.{below-nine, no-digit, no-more, one-digit}
-use Rattle.lines.proofs.digits.number.Needs as need
+use Rattle.lines.proofs.digits.decimals.Needs as need
 
 pub mul-value : need.mul-value
 mul-value c = omega (arith, below-nine (c .loop-b .b-index) (c .loop-b .value) (omega arith) (c .loop-b .inv .1))
