@@ -3,3 +3,5 @@ pub mod Calls
 pub mod Seals
 pub mod Reports
 pub mod Making
+pub mod Flights
+pub mod Sending

@@ -1,8 +1,9 @@
--- What the digits of a number and of a byte string say. Assumes nothing.
+-- What the digits of a number, of a value and of a byte string say. Assumes nothing.
 use mathlib.Core.Bool.{cond}
 use mathlib.Core.List.{List, [], _∷_}
 use Prim.Native.Nat.{ℕ, _+_, _-_, _*_}
 use lib.Chars.{codes}
+use lib.Dec.{eqb}
 use lib.ListN.{length}
 use Rattle.std.specs.Options.{mapped}
 use Rattle.std.specs.Text.{within}
@@ -23,14 +24,24 @@ decimalOf b = cond (within 48 57 b) (Some (b - 48)) None
 abbrev pub digitOf : ℕ → Option ℕ
 digitOf b = cond (within 65 70 b) (Some (b - 65 + 10)) (decimalOf b)
 
--- the number that decimal digits write after those of v
+-- the number that digits of a base, each read in one way, write after those of v
+abbrev pub numeralOf : ℕ → (ℕ → Option ℕ) → ℕ → List ℕ → Option ℕ
+numeralOf base reading v [] = Some v
+numeralOf base reading v (b ∷ bs) = andThen (reading b) (λ d. numeralOf base reading (base * v + d) bs)
+
 abbrev pub decimalsOf : ℕ → List ℕ → Option ℕ
-decimalsOf v [] = Some v
-decimalsOf v (b ∷ bs) = andThen (decimalOf b) (λ d. decimalsOf (10 * v + d) bs)
+decimalsOf = numeralOf 10 decimalOf
+
+abbrev pub hexadecimalsOf : ℕ → List ℕ → Option ℕ
+hexadecimalsOf = numeralOf 16 digitOf
 
 -- a number: 1 to 9 decimal digits
 abbrev pub numberOf : List ℕ → Option ℕ
 numberOf word = cond (within 1 9 (length word)) (decimalsOf 0 word) None
+
+-- a value: 16 upper-case hexadecimal digits, the most significant first
+abbrev pub valueOf : List ℕ → Option ℕ
+valueOf word = cond (eqb (length word) 16) (hexadecimalsOf 0 word) None
 
 -- a byte: its high digit, then its low digit
 abbrev pub byteOf : ℕ → ℕ → Option ℕ

@@ -11,7 +11,7 @@ use Rattle.lines.specs.declared.line.KindWord.the-variants.{Setpoint, Step}
 use Rattle.lines.specs.declared.line.SchemeWord.{SchemeWord}
 use Rattle.lines.specs.declared.line.SchemeWord.the-variants.{Ledger, Deck}
 use Rattle.lines.specs.Cut.{head, isNil, pieces, tail}
-use Rattle.lines.specs.Digits.{andThen, byteString, numberOf}
+use Rattle.lines.specs.Digits.{andThen, byteString, numberOf, valueOf}
 
 -- what a line says
 pub data LineRead : Type 0 where
@@ -22,6 +22,10 @@ pub data LineRead : Type 0 where
   turnLine : ℕ → LineRead
   advanceLine : ℕ → LineRead
   sealLine : ℕ → List ℕ → LineRead
+  openLine : ℕ → ℕ → ℕ → LineRead
+  injectLine : ℕ → ℕ → List ℕ → LineRead
+  deliverLine : ℕ → ℕ → LineRead
+  decideLine : ℕ → ℕ → LineRead
 
 -- what a table has under a word
 abbrev pub named : {A : Type 0} → List (List ℕ × A) → List ℕ → Option A
@@ -74,6 +78,18 @@ advanceForm = number (λ ticks. end (advanceLine ticks))
 abbrev pub sealForm : Form
 sealForm = number (λ processor. word byteString (λ text. end (sealLine processor text)))
 
+abbrev pub openForm : Form
+openForm = number (λ processor. number (λ item. word valueOf (λ value. end (openLine processor item value))))
+
+abbrev pub injectForm : Form
+injectForm = number (λ from. number (λ to. word byteString (λ bytes. end (injectLine from to bytes))))
+
+abbrev pub deliverForm : Form
+deliverForm = number (λ flight. number (λ processor. end (deliverLine flight processor)))
+
+abbrev pub decideForm : Form
+decideForm = number (λ processor. number (λ item. end (decideLine processor item)))
+
 abbrev pub forms : List (List ℕ × Form)
 forms = (codes "bench", benchForm)
     ∷ (codes "item", itemForm)
@@ -82,6 +98,10 @@ forms = (codes "bench", benchForm)
     ∷ (codes "turn", turnForm)
     ∷ (codes "advance", advanceForm)
     ∷ (codes "seal", sealForm)
+    ∷ (codes "open", openForm)
+    ∷ (codes "inject", injectForm)
+    ∷ (codes "deliver", deliverForm)
+    ∷ (codes "decide", decideForm)
     ∷ []
 
 -- the first word names the form of the words after it

@@ -1,11 +1,11 @@
-// Reads decimal numbers and hexadecimal byte strings.
+// Reads decimal numbers, hexadecimal values and hexadecimal byte strings.
 ghost use mathlib.Core.Path.{_≡_};
 ghost use Prim.Native.Nat.{_≤_};
 ghost use lib.ListN.{length};
 ghost use Rattle.std.specs.Of.Vec.{vec-items};
 ghost use Rattle.std.specs.Options.{mapped};
 ghost use Rattle.std.specs.Vec.{made};
-ghost use Rattle.lines.specs.Digits.{byteOf, bytesOf, byteString, decimalOf, decimalsOf, digitOf, numberOf};
+ghost use Rattle.lines.specs.Digits.{byteOf, bytesOf, byteString, decimalOf, decimalsOf, digitOf, hexadecimalsOf, numberOf, valueOf};
 use std::alloc::AllocError;
 use std::alloc::Global;
 
@@ -47,6 +47,28 @@ fn decimals(digits: &[u8]) -> Option<u32>
     let mut value = 0;
     for b in digits {
         value = 10 * value + u32::from(decimal(*b)?);
+    }
+    Some(value)
+}
+
+// A value has 16 hexadecimal digits, the most significant first.
+pub fn value(word: &[u8]) -> Option<u64>
+    ensures { λ r. ⌜ r ≡ valueOf (now (word .entry)) ⌝ }
+{
+    if word.len() != 16 {
+        return None;
+    }
+    hexadecimals(word)
+}
+
+// The value of so few digits fits.
+fn hexadecimals(digits: &[u8]) -> Option<u64>
+    requires { ⌜ length (now digits) ≤ 16 ⌝ }
+    ensures { λ r. ⌜ r ≡ hexadecimalsOf 0 (now (digits .entry)) ⌝ }
+{
+    let mut value = 0;
+    for b in digits {
+        value = 16 * value + u64::from(digit(*b)?);
     }
     Some(value)
 }

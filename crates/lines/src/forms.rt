@@ -2,7 +2,7 @@
 ghost use mathlib.Core.Path.{_≡_};
 ghost use Rattle.std.specs.Options.{mapped};
 ghost use Rattle.std.specs.Vec.{made};
-ghost use Rattle.lines.specs.Grammar.{advanceForm, benchForm, itemForm, lineForm, readLine, sealForm, setForm, startForm, turnForm};
+ghost use Rattle.lines.specs.Grammar.{advanceForm, benchForm, decideForm, deliverForm, injectForm, itemForm, lineForm, openForm, readLine, sealForm, setForm, startForm, turnForm};
 ghost use Rattle.lines.specs.Left.{ahead};
 ghost use Rattle.lines.specs.Views.{viewed};
 use crate::line::Line;
@@ -32,6 +32,10 @@ fn read_words(heap: Global, mut words: Words<'_>) -> Result<Option<Line>, AllocE
         "turn" => Ok(turn(words)),
         "advance" => Ok(advance(words)),
         "seal" => seal(heap, words),
+        "open" => Ok(open(words)),
+        "inject" => inject(heap, words),
+        "deliver" => Ok(deliver(words)),
+        "decide" => Ok(decide(words)),
         _ => Ok(None),
     }
 }
@@ -103,4 +107,54 @@ fn seal(heap: Global, mut words: Words<'_>) -> Result<Option<Line>, AllocError>
         return Ok(None);
     }
     Ok(Some(Line::Seal { processor, text }))
+}
+
+fn open(mut words: Words<'_>) -> Option<Line>
+    ensures { λ r. ⌜ mapped viewed r ≡ openForm (ahead (words .entry)) ⌝ }
+{
+    let processor = words.number()?;
+    let item = words.number()?;
+    let value = words.value()?;
+    words.end()?;
+    Some(Line::Open {
+        processor,
+        item,
+        value,
+    })
+}
+
+fn inject(heap: Global, mut words: Words<'_>) -> Result<Option<Line>, AllocError>
+    ensures { λ r. ⌜ made r (λ o. mapped viewed o ≡ injectForm (ahead (words .entry))) ⌝ }
+{
+    let Some(from) = words.number() else {
+        return Ok(None);
+    };
+    let Some(to) = words.number() else {
+        return Ok(None);
+    };
+    let Some(bytes) = words.byte_string(heap)? else {
+        return Ok(None);
+    };
+    if words.end().is_none() {
+        return Ok(None);
+    }
+    Ok(Some(Line::Inject { from, to, bytes }))
+}
+
+fn deliver(mut words: Words<'_>) -> Option<Line>
+    ensures { λ r. ⌜ mapped viewed r ≡ deliverForm (ahead (words .entry)) ⌝ }
+{
+    let flight = words.number()?;
+    let processor = words.number()?;
+    words.end()?;
+    Some(Line::Deliver { flight, processor })
+}
+
+fn decide(mut words: Words<'_>) -> Option<Line>
+    ensures { λ r. ⌜ mapped viewed r ≡ decideForm (ahead (words .entry)) ⌝ }
+{
+    let processor = words.number()?;
+    let item = words.number()?;
+    words.end()?;
+    Some(Line::Decide { processor, item })
 }

@@ -8,6 +8,7 @@ mod words;
 pub use digits::byte_string;
 pub use digits::digit;
 pub use digits::number;
+pub use digits::value;
 pub use forms::read;
 pub use line::KindWord;
 pub use line::Line;

@@ -5,7 +5,7 @@ ghost use Rattle.std.specs.Options.{Cases as BySome, isSome, mapped};
 ghost use Rattle.std.specs.Vec.{made};
 ghost use Rattle.std.specs.declared.option.Option.the-variants.{Some};
 ghost use Rattle.lines.specs.Cut.{head, isNil, pieces, tail};
-ghost use Rattle.lines.specs.Digits.{andThen, byteString, numberOf};
+ghost use Rattle.lines.specs.Digits.{andThen, byteString, numberOf, valueOf};
 ghost use Rattle.lines.specs.Grammar.{kinds, named, schemes};
 ghost use Rattle.lines.specs.Left.{NoText, ahead};
 use crate::digits;
@@ -52,6 +52,13 @@ impl<'a> Words<'a> {
         ensures after { λ r. ⌜ ahead (now (self .exit)) ≡ tail (ahead (now (self .entry))) ⌝ }
     {
         digits::number(self.word()?)
+    }
+
+    pub fn value(&mut self) -> Option<u64>
+        ensures value { λ r. ⌜ r ≡ andThen (head (ahead (now (self .entry)))) valueOf ⌝ }
+        ensures after { λ r. ⌜ ahead (now (self .exit)) ≡ tail (ahead (now (self .entry))) ⌝ }
+    {
+        digits::value(self.word()?)
     }
 
     pub fn byte_string(&mut self, heap: Global) -> Result<Option<Vec<u8>>, AllocError>

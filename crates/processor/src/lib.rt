@@ -6,6 +6,7 @@ mod chains;
 mod controller;
 mod decide;
 mod examples;
+mod naming;
 mod open;
 mod owed;
 mod part;

@@ -1,5 +1,7 @@
 -- The refusal table: each case's row number, and the place that it tells.
+use mathlib.Core.Bool.{Bool, _&&_}
 use Prim.Native.Nat.{ℕ}
+use lib.Dec.{leb}
 use Rattle.std.specs.declared.option.Option.{Option}
 use Rattle.std.specs.declared.option.Option.the-variants.{Some, None}
 use Rattle.refusals.specs.declared.refusal.Refusal.{Refusal}
@@ -48,3 +50,7 @@ rowOf r = rowAndPlace r .0
 
 abbrev pub toldBy : Refusal → Option ℕ
 toldBy r = rowAndPlace r .1
+
+-- rows 30 to 42 drop a received frame
+abbrev pub isDrop : Refusal → Bool
+isDrop r = leb 30 (rowOf r) && leb (rowOf r) 42

@@ -1,6 +1,6 @@
 // The row of a refusal, and the place that it tells.
 ghost use mathlib.Core.Path.{_≡_};
-ghost use Rattle.refusals.specs.Rows.{rowOf, toldBy};
+ghost use Rattle.refusals.specs.Rows.{isDrop, rowOf, toldBy};
 use crate::refusal::Refusal;
 
 impl Refusal {
@@ -56,5 +56,13 @@ impl Refusal {
             Refusal::Link(place) | Refusal::Own(place) | Refusal::Forged(place) => Some(place),
             _ => None,
         }
+    }
+
+    // Whether a received frame is dropped by this row.
+    pub fn is_drop(self) -> bool
+        ensures { λ r. ⌜ r ≡ isDrop self ⌝ }
+    {
+        let row = self.row();
+        30 <= row && row <= 42
     }
 }

@@ -16,7 +16,7 @@ use Rattle.script.specs.declared.answer.Answer.{Answer}
 use Rattle.script.specs.declared.setting.Heard.{Heard}
 use Rattle.script.specs.Printing.{printed}
 use Rattle.script.specs.Settings.{Set, heard}
-use Rattle.script.specs.Calls.{answered}
+use Rattle.script.specs.Calls.{Values, answered}
 use Rattle.script.specs.Transcript.{unended, lineOf, itemLines, report, Runs, Heeds, Opens}
 use Rattle.script.proofs.Pieces.{Turn}
 
@@ -38,22 +38,22 @@ step R {start} {a} {b} all ps qs out out′ said so-far pushed left one o h =
     subst (λ l. R start all l) (sym (append-assoc out said o) ∙ ap (λ l. l ++ o) (sym pushed)) (so-far (said ++ o) (one o now))
 
 -- the text after the last newline
-pub run-last : (m : Model) (line : List ℕ) (ps : List (List ℕ)) → Turn line ps → isNil (tail ps) ≡ true → (o : List ℕ) → Runs m (tail ps) o → Runs m ps (unended line ++ o)
-run-last m line ps Turn.last-one e o h = ap (λ l. unended line ++ l) h
-run-last m line ps (Turn.one-more next more) e o h = absurd (false≢true e)
+pub run-last : (v : Values) (m : Model) (line : List ℕ) (ps : List (List ℕ)) → Turn line ps → isNil (tail ps) ≡ true → (o : List ℕ) → Runs v m (tail ps) o → Runs v m ps (unended line ++ o)
+run-last v m line ps Turn.last-one e o h = ap (λ l. unended line ++ l) h
+run-last v m line ps (Turn.one-more next more) e o h = absurd (false≢true e)
 
 -- a line, whose answer is a, with some number for a new seal
-pub run-more : (m m′ : Model) (line : List ℕ) (ps : List (List ℕ)) (a : Answer) → Turn line ps → isNil (tail ps) ≡ false
-    → ((z : ℕ) × ((a, m′) ≡ answered z (readLine line) m)) → (o : List ℕ) → Runs m′ (tail ps) o → Runs m ps (printed a ++ o)
-run-more m m′ line ps a Turn.last-one e called o h = absurd (true≢false e)
-run-more m m′ line ps a (Turn.one-more next more) e (z, eq) o h =
-    let P : Answer × Model → Type 0 = λ x. Runs (x .1) (next ∷ more) o → Runs m (line ∷ next ∷ more) (printed (x .0) ++ o) in
+pub run-more : (v : Values) (m m′ : Model) (line : List ℕ) (ps : List (List ℕ)) (a : Answer) → Turn line ps → isNil (tail ps) ≡ false
+    → ((z : ℕ) × ((a, m′) ≡ answered v z (readLine line) m)) → (o : List ℕ) → Runs v m′ (tail ps) o → Runs v m ps (printed a ++ o)
+run-more v m m′ line ps a Turn.last-one e called o h = absurd (true≢false e)
+run-more v m m′ line ps a (Turn.one-more next more) e (z, eq) o h =
+    let P : Answer × Model → Type 0 = λ x. Runs v (x .1) (next ∷ more) o → Runs v m (line ∷ next ∷ more) (printed (x .0) ++ o) in
     subst P (sym eq) (λ k. (z, o, refl, k)) h
 
 -- the end
-pub run-end : (m : Model) (ps : List (List ℕ)) (o : List ℕ) → None ≡ head ps → o ≡ report m → Runs m ps o
-run-end m [] o e h = h
-run-end m (p ∷ ps) o e h = absurd (let z : _≡_ {A = ℕ} 0 1 = cc in omega arith)
+pub run-end : (v : Values) (m : Model) (ps : List (List ℕ)) (o : List ℕ) → None ≡ head ps → o ≡ report m → Runs v m ps o
+run-end v m [] o e h = h
+run-end v m (p ∷ ps) o e h = absurd (let z : _≡_ {A = ℕ} 0 1 = cc in omega arith)
 
 -- a line before the start that is heard as x
 pub open-more : (s : Set) (line : List ℕ) (ps : List (List ℕ)) (x : Heard × Set) → Turn line ps → isNil (tail ps) ≡ false → x ≡ heard (readLine line) s

@@ -16,17 +16,12 @@ use Rattle.processor.specs.declared.part.Decision.{Decision}
 use Rattle.processor.specs.declared.part.Decision.the-variants.{Default, Value}
 use Rattle.bench.specs.declared.report.Report.{Report}
 use Rattle.script.specs.declared.answer.Answer.{Answer}
-use Rattle.script.specs.declared.answer.Answer.the-variants.{Done, Number, Refused}
+use Rattle.script.specs.declared.answer.Answer.the-variants.{Done, Number, Decided, Dropped, Refused}
 
 -- the row, and the link or flight told, if any
-abbrev pub rowLine : ℕ → Option ℕ → List ℕ
-rowLine row None = codes "no " ++ (decimal row ++ codes "\n")
-rowLine row (Some place) = codes "no " ++ (decimal row ++ (codes " " ++ (decimal place ++ codes "\n")))
-
-abbrev pub printed : Answer → List ℕ
-printed Done = codes "ok\n"
-printed (Number n) = codes "ok " ++ (decimal n ++ codes "\n")
-printed (Refused r) = rowLine (rowOf r) (toldBy r)
+abbrev pub rowText : ℕ → Option ℕ → List ℕ
+rowText row None = decimal row ++ codes "\n"
+rowText row (Some place) = decimal row ++ (codes " " ++ (decimal place ++ codes "\n"))
 
 -- an upper-case hexadecimal digit
 abbrev pub hexDigit : ℕ → ℕ
@@ -41,6 +36,13 @@ abbrev pub decisionWord : Option Decision → List ℕ
 decisionWord None = codes "none"
 decisionWord (Some Default) = codes "default"
 decisionWord (Some (Value v)) = hex 16 v
+
+abbrev pub printed : Answer → List ℕ
+printed Done = codes "ok\n"
+printed (Number n) = codes "ok " ++ (decimal n ++ codes "\n")
+printed (Decided d) = codes "ok " ++ (decisionWord (Some d) ++ codes "\n")
+printed (Dropped r) = codes "drop " ++ rowText (rowOf r) (toldBy r)
+printed (Refused r) = codes "no " ++ rowText (rowOf r) (toldBy r)
 
 -- the decisions of the first q processors, each after a space
 abbrev pub decisionWords : List (Option Decision) → ℕ → List ℕ

@@ -19,6 +19,9 @@ use Rattle.bench.specs.Making.{made, refusalIn}
 use Rattle.bench.specs.Reports.{reports}
 use Rattle.lines.specs.Cut.{pieces}
 use Rattle.lines.specs.Grammar.{readLine}
+use Rattle.kinds.specs.Codes.{isSetpoint, sameSetpoint, isStep, sameStep}
+use Rattle.lines.specs.declared.line.KindWord.{KindWord}
+use Rattle.lines.specs.declared.line.KindWord.the-variants.{Setpoint, Step}
 use Rattle.lines.specs.declared.line.SchemeWord.{SchemeWord}
 use Rattle.lines.specs.declared.line.SchemeWord.the-variants.{Ledger, Deck}
 use Rattle.script.specs.declared.setting.Sizes.{Sizes}
@@ -27,7 +30,7 @@ use Rattle.script.specs.declared.setting.Heard.the-variants.{Kept, OutOfOrder,
 use Rattle.script.specs.declared.answer.Answer.the-variants.{Done, Refused}
 use Rattle.script.specs.Printing.{printed, itemLine}
 use Rattle.script.specs.Settings.{Set, unset, heard}
-use Rattle.script.specs.Calls.{answered}
+use Rattle.script.specs.Calls.{Values, values, answered}
 
 -- The text is cut at its newlines. Each piece but the last is a line; what stands after the last newline is none.
 
@@ -61,24 +64,29 @@ abbrev pub report : Model → List ℕ
 report m = itemLines m 8
 
 -- a started run: each line prints its answer, where some z is the number of a new seal; last comes the report
-abbrev pub Runs : Model → List (List ℕ) → List ℕ → Type 0
-Runs m [] out = out ≡ report m
-Runs m (last ∷ []) out = out ≡ unended last ++ report m
-Runs m (line ∷ next ∷ more) out =
-    (z : ℕ) × (rest : List ℕ) × (out ≡ printed (answered z (readLine line) m .0) ++ rest) × Runs (answered z (readLine line) m .1) (next ∷ more) rest
+abbrev pub Runs : Values → Model → List (List ℕ) → List ℕ → Type 0
+Runs v m [] out = out ≡ report m
+Runs v m (last ∷ []) out = out ≡ unended last ++ report m
+Runs v m (line ∷ next ∷ more) out =
+    (z : ℕ) × (rest : List ℕ) × (out ≡ printed (answered v z (readLine line) m .0) ++ rest) × Runs v (answered v z (readLine line) m .1) (next ∷ more) rest
 
 -- `start` prints `ok` and the run goes on, or the refusal of the making and every later line is out of order
-abbrev pub Begins : Option Refusal → Model → List (List ℕ) → List ℕ → Type 0
-Begins None m more out = (rest : List ℕ) × (out ≡ printed Done ++ rest) × Runs m more rest
-Begins (Some r) m more out = out ≡ printed (Refused r) ++ outOfOrder more
+abbrev pub Begins : Values → Option Refusal → Model → List (List ℕ) → List ℕ → Type 0
+Begins v None m more out = (rest : List ℕ) × (out ≡ printed Done ++ rest) × Runs v m more rest
+Begins v (Some r) m more out = out ≡ printed (Refused r) ++ outOfOrder more
 
 -- a fresh ledger, and a deck of which each signer is dealt 64 seals, have nothing sealed and 64 left for each signer
 abbrev pub freshScheme : SchemeWord → Meaning
 freshScheme Ledger = fresh 64
 freshScheme Deck = fresh (min 64 64)
 
-abbrev pub Started : Model → List (List ℕ) → List ℕ → Type 0
-Started m more out = Begins (refusalIn (m .core .plan)) m more out
+-- the kinds of value
+abbrev pub valuesOf : KindWord → Values
+valuesOf Setpoint = values isSetpoint sameSetpoint
+valuesOf Step = values isStep sameStep
+
+abbrev pub Started : Values → Model → List (List ℕ) → List ℕ → Type 0
+Started v m more out = Begins v (refusalIn (m .core .plan)) m more out
 
 abbrev pub benchOf : Sizes → Set → SchemeWord → Model
 benchOf z s scheme = made (z .n) (z .f) (z .d) (z .e) (s .agenda) (freshScheme scheme)
@@ -87,7 +95,7 @@ benchOf z s scheme = made (z .n) (z .f) (z .d) (z .e) (s .agenda) (freshScheme s
 abbrev pub Heeds : Heard × Set → (Set → List ℕ → Type 0) → List (List ℕ) → List ℕ → Type 0
 Heeds (Kept, s) go more out = go s out
 Heeds (OutOfOrder, s) go more out = (rest : List ℕ) × (out ≡ badLine ++ rest) × go s rest
-Heeds (Start z kind scheme, s) go more out = Started (benchOf z s scheme) more out
+Heeds (Start z kind scheme, s) go more out = Started (valuesOf kind) (benchOf z s scheme) more out
 
 -- the lines before the start; without a granted start there is no report
 abbrev pub Opens : Set → List (List ℕ) → List ℕ → Type 0

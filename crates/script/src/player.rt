@@ -10,7 +10,8 @@ ghost use Rattle.bench.specs.Making.{made as making};
 ghost use Rattle.bench.specs.Model.{modelOf};
 ghost use Rattle.lines.specs.Left.{left};
 ghost use Rattle.bench.specs.Reports.{reports};
-ghost use Rattle.script.specs.Transcript.{lineOf, unended, outOfOrder, report, freshScheme, Runs, Started, Opens, Transcript};
+ghost use Rattle.script.specs.Transcript.{lineOf, unended, outOfOrder, report, freshScheme, valuesOf, Runs, Started, Opens, Transcript};
+ghost use Rattle.script.specs.Calls.{values};
 ghost use Rattle.script.specs.Settings.{unset};
 use crate::answer::Answer;
 use crate::calls::call;
@@ -95,7 +96,7 @@ fn run<S: Scheme + Drop, K: Kind + Drop>(
     mut bench: Bench<S, K>,
     mut lines: Pieces<'_>,
 ) -> Result<String, AllocError>
-    ensures { λ r. ⌜ made r (λ s. Runs (modelOf (S·Scheme .meaning) bench) (left (lines .entry)) (string-bytes s)) ⌝ }
+    ensures { λ r. ⌜ made r (λ s. Runs (values (K·Kind .admitted) (K·Kind .same)) (modelOf (S·Scheme .meaning) bench) (left (lines .entry)) (string-bytes s)) ⌝ }
 {
     let mut out = String::new(heap);
     while let Some(line) = lines.next() {
@@ -118,7 +119,7 @@ fn begin<S: Scheme + Drop, K: Kind + Drop>(
     bench: Bench<S, K>,
     lines: Pieces<'_>,
 ) -> Result<String, AllocError>
-    ensures { λ r. ⌜ made r (λ s. Started (modelOf (S·Scheme .meaning) bench) (left (lines .entry)) (string-bytes s)) ⌝ }
+    ensures { λ r. ⌜ made r (λ s. Started (values (K·Kind .admitted) (K·Kind .same)) (modelOf (S·Scheme .meaning) bench) (left (lines .entry)) (string-bytes s)) ⌝ }
 {
     match bench.refusal() {
         None => {
@@ -145,7 +146,7 @@ fn start_with<S: Scheme + Drop>(
     scheme: S,
     lines: Pieces<'_>,
 ) -> Result<String, AllocError>
-    ensures { λ r. ⌜ made r (λ s. Started (making (sizes .n) (sizes .f) (sizes .d) (sizes .e) (now (agenda .entry)) (S·Scheme .meaning scheme)) (left (lines .entry)) (string-bytes s)) ⌝ }
+    ensures { λ r. ⌜ made r (λ s. Started (valuesOf kind) (making (sizes .n) (sizes .f) (sizes .d) (sizes .e) (now (agenda .entry)) (S·Scheme .meaning scheme)) (left (lines .entry)) (string-bytes s)) ⌝ }
 {
     let Sizes { n, f, d, e } = sizes;
     match kind {
@@ -187,7 +188,7 @@ fn start(
     scheme: SchemeWord,
     lines: Pieces<'_>,
 ) -> Result<String, AllocError>
-    ensures { λ r. ⌜ made r (λ s. Started (making (sizes .n) (sizes .f) (sizes .d) (sizes .e) (now (agenda .entry)) (freshScheme scheme)) (left (lines .entry)) (string-bytes s)) ⌝ }
+    ensures { λ r. ⌜ made r (λ s. Started (valuesOf kind) (making (sizes .n) (sizes .f) (sizes .d) (sizes .e) (now (agenda .entry)) (freshScheme scheme)) (left (lines .entry)) (string-bytes s)) ⌝ }
 {
     match scheme {
         SchemeWord::Ledger => start_with(heap, sizes, agenda, kind, Ledger::new(), lines),

@@ -5,7 +5,7 @@ ghost use lib.ListN.{getD};
 ghost use Rattle.std.specs.declared.option.Option.the-variants.{None};
 ghost use Rattle.std.specs.Of.String.{string-bytes};
 ghost use Rattle.std.specs.Vec.{made};
-ghost use Rattle.script.specs.Printing.{printed, rowLine, hexDigit, hex, decisionWord, decisionWords, itemLine};
+ghost use Rattle.script.specs.Printing.{printed, rowText, hexDigit, hex, decisionWord, decisionWords, itemLine};
 ghost use Rattle.refusals.specs.Rows.{rowOf, toldBy};
 use crate::answer::Answer;
 use bench::Report;
@@ -14,24 +14,14 @@ use refusals::Refusal;
 use std::alloc::AllocError;
 use std::alloc::Global;
 
-fn row_line(heap: Global, refusal: Refusal) -> Result<String, AllocError>
-    ensures { λ r. ⌜ made r (λ s. string-bytes s ≡ rowLine (rowOf refusal) (toldBy refusal)) ⌝ }
+// The row, and the link or flight told, if any.
+fn row_text(heap: Global, refusal: Refusal) -> Result<String, AllocError>
+    ensures { λ r. ⌜ made r (λ s. string-bytes s ≡ rowText (rowOf refusal) (toldBy refusal)) ⌝ }
 {
     let row = refusal.row();
     match refusal.told() {
-        None => format!(heap, "no {row}\n"),
-        Some(place) => format!(heap, "no {row} {place}\n"),
-    }
-}
-
-// The line that answers a call.
-pub fn answer_line(heap: Global, answer: Answer) -> Result<String, AllocError>
-    ensures { λ r. ⌜ made r (λ s. string-bytes s ≡ printed answer) ⌝ }
-{
-    match answer {
-        Answer::Done => String::from_str(heap, "ok\n"),
-        Answer::Number(n) => format!(heap, "ok {n}\n"),
-        Answer::Refused(refusal) => row_line(heap, refusal),
+        None => format!(heap, "{row}\n"),
+        Some(place) => format!(heap, "{row} {place}\n"),
     }
 }
 
@@ -66,6 +56,28 @@ fn decision_word(heap: Global, decision: Option<Decision>) -> Result<String, All
         None => String::from_str(heap, "none"),
         Some(Decision::Default) => String::from_str(heap, "default"),
         Some(Decision::Value(value)) => hex(heap, value, 16),
+    }
+}
+
+// The line that answers a call.
+pub fn answer_line(heap: Global, answer: Answer) -> Result<String, AllocError>
+    ensures { λ r. ⌜ made r (λ s. string-bytes s ≡ printed answer) ⌝ }
+{
+    match answer {
+        Answer::Done => String::from_str(heap, "ok\n"),
+        Answer::Number(n) => format!(heap, "ok {n}\n"),
+        Answer::Decided(decision) => {
+            let word = decision_word(heap, Some(decision))?;
+            format!(heap, "ok {word}\n")
+        }
+        Answer::Dropped(refusal) => {
+            let row = row_text(heap, refusal)?;
+            format!(heap, "drop {row}")
+        }
+        Answer::Refused(refusal) => {
+            let row = row_text(heap, refusal)?;
+            format!(heap, "no {row}")
+        }
     }
 }
 

@@ -7,7 +7,7 @@ use Rattle.lines.specs.Left.{left}
 use Rattle.lines.specs.Cut.{isNil}
 use Rattle.script.specs.declared.setting.Heard.the-variants.{Kept, OutOfOrder, Start}
 use Rattle.script.specs.Settings.{settingOf, unset, heard}
-use Rattle.script.specs.Transcript.{badLine, freshScheme, Opens, Started, benchOf}
+use Rattle.script.specs.Transcript.{badLine, freshScheme, valuesOf, Opens, Started, benchOf}
 use Rattle.script.proofs.Pieces.{turn, turn-less}
 use Rattle.script.proofs.Turns.{step, open-more, open-end}
 use Rattle.script.proofs.player.open.Needs as need
@@ -49,15 +49,16 @@ returns-in-Start c =
     let s = settingOf (c .loop-line .setting) in
     let t = settingOf (c .hear .last .self) in
     let z = c .in-Start .sizes in
+    let kind = c .in-Start .kind in
     let scheme = c .in-Start .scheme in
     let ps = left (c .loop-line .lines) in
     let line = c .in-Some .line .now in
     let rest = string-bytes (c .in-Continue-rest .rest) in
     let over = sym (c .if-is-over .ensures tt ∙ ap isNil (c .next .ensures .after)) in
     let heard-as = ap (λ h. (h, t)) (sym (c .in-Start .is)) ∙ c .in-Continue-hear .ensures tt ∙ ap (λ l. heard l s) (c .in-Continue-read .ensures tt) in
-    let begun = subst (λ l. Started (making (z .n) (z .f) (z .d) (z .e) l (freshScheme scheme)) (left (c .next .last .self)) rest) (c .as-slice .ensures .value) (c .in-Continue-rest .ensures tt) in
-    let started = subst (λ l. Started (benchOf z t scheme) l rest) (c .next .ensures .after) begun in
-    let whole = c .loop-line .inv rest (open-more s line ps (Start z (c .in-Start .kind) scheme, t) (turn line ps (c .in-Some .ensures tt .value)) over heard-as rest started) in
+    let begun = subst (λ l. Started (valuesOf kind) (making (z .n) (z .f) (z .d) (z .e) l (freshScheme scheme)) (left (c .next .last .self)) rest) (c .as-slice .ensures .value) (c .in-Continue-rest .ensures tt) in
+    let started = subst (λ l. Started (valuesOf kind) (benchOf z t scheme) l rest) (c .next .ensures .after) begun in
+    let whole = c .loop-line .inv rest (open-more s line ps (Start z kind scheme, t) (turn line ps (c .in-Some .ensures tt .value)) over heard-as rest started) in
     subst (λ l. Opens unset (left (c .args .lines)) l) (sym (c .in-Continue-push-str-3 .ensures tt .bytes ∙ ap (λ l. string-bytes (c .loop-line .out) ++ l) (c .as-str .ensures .value))) whole
 
 pub returns : need.returns
