@@ -13,6 +13,7 @@ use Rattle.refusals.specs.Places.{first}
 use Rattle.refusals.specs.declared.refusal.Refusal.{Refusal}
 use Rattle.refusals.specs.declared.refusal.Refusal.the-variants.{Processor, Faulty, Spare, Offset, End, Due}
 use Rattle.plans.specs.Setups.{Setup}
+use Rattle.processor.specs.Controllers.{isProcessor}
 use Rattle.bench.specs.declared.state.Flight.{Flight}
 use Rattle.bench.specs.Model.{Core, Model}
 
@@ -29,10 +30,6 @@ lifted call m = (call (m .core) .0, record { core = call (m .core) .1; scheme = 
 abbrev pub countTrue : List Bool → ℕ
 countTrue [] = 0
 countTrue (x ∷ xs) = cond x 1 0 + countTrue xs
-
--- p is a processor of the bench
-abbrev pub isProcessor : Setup → ℕ → Bool
-isProcessor s p = leb 1 p && leb p (s .n)
 
 abbrev pub hasTurned : Core → ℕ → Bool
 hasTurned c p = getD (c .turned) (p - 1) false

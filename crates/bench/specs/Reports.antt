@@ -1,9 +1,9 @@
 -- What became of an item.
-use mathlib.Core.Bool.{Bool, cond, _&&_}
+use mathlib.Core.Bool.{cond}
 use mathlib.Core.List.{List, [], _∷_}
 use Prim.Native.Nat.{ℕ}
-use lib.Dec.{eqb, leb}
-use lib.ListN.{length, getD}
+use lib.Dec.{eqb}
+use lib.ListN.{getD}
 use Rattle.std.specs.declared.option.Option.{Option}
 use Rattle.std.specs.declared.result.Result.{Result}
 use Rattle.std.specs.declared.result.Result.the-variants.{Ok, Err}
@@ -11,15 +11,12 @@ use Rattle.std.specs.shelf.Lists.{countBy}
 use Rattle.refusals.specs.declared.refusal.Refusal.{Refusal}
 use Rattle.refusals.specs.declared.refusal.Refusal.the-variants.{Item}
 use Rattle.plans.specs.Setups.{Setup}
+use Rattle.processor.specs.Agendas.{isItem}
 use Rattle.processor.specs.Parts.{recordOf}
 use Rattle.processor.specs.declared.part.Part.{Part}
 use Rattle.processor.specs.declared.part.Decision.{Decision}
 use Rattle.bench.specs.declared.report.Report.{Report}
 use Rattle.bench.specs.Model.{Core}
-
--- an item of the agenda
-abbrev pub isItem : Setup → ℕ → Bool
-isItem s item = leb 1 item && leb item (length (s .agenda))
 
 -- the flights of the item
 abbrev pub broadcasts : Core → ℕ → ℕ

@@ -7,8 +7,9 @@ use Rattle.std.specs.declared.result.Result.the-variants.{Ok, Err}
 use Rattle.refusals.specs.declared.refusal.Refusal.{Refusal}
 use Rattle.refusals.specs.declared.refusal.Refusal.the-variants.{Processor, Sound}
 use Rattle.seals.specs.Meanings.{answered, signed}
+use Rattle.processor.specs.Controllers.{isProcessor}
 use Rattle.bench.specs.Model.{Model}
-use Rattle.bench.specs.Calls.{after, isProcessor, hasTurned}
+use Rattle.bench.specs.Calls.{after, hasTurned}
 
 -- the scheme's own answer, where z is the number of a new seal
 abbrev pub signs : ℕ → ℕ → List ℕ → Model → Result ℕ Refusal × Model

@@ -12,11 +12,12 @@ use Rattle.plans.specs.Setups.{Setup}
 use Rattle.processor.specs.declared.owed.Owed.{Owed}
 use Rattle.processor.specs.declared.part.Decision.{Decision}
 use Rattle.processor.specs.declared.part.Part.{Part}
+use Rattle.processor.specs.Agendas.{isItem}
+use Rattle.processor.specs.Controllers.{isProcessor}
 use Rattle.processor.specs.Opening.{opened}
 use Rattle.processor.specs.Deciding.{decided}
 use Rattle.bench.specs.Model.{Core, Model}
-use Rattle.bench.specs.Calls.{after, isProcessor, hasTurned, seat, noFlight}
-use Rattle.bench.specs.Reports.{isItem}
+use Rattle.bench.specs.Calls.{after, hasTurned, seat, noFlight}
 use Rattle.bench.specs.Flights.{partAt, readingAt, withPart, launches, keeps, receives, arrives}
 
 -- the place of p, which is a processor (row 10), where the item is in the agenda (row 11) and p has not turned (row 12)

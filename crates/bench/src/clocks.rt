@@ -40,7 +40,7 @@ fn is_correct(turned: &[bool; 8], p: u8) -> bool
 }
 
 // The place of the flight's lowest goal that has not turned.
-pub fn goal_of(turned: &[bool; 8], flight: &Flight) -> Option<usize>
+fn goal_of(turned: &[bool; 8], flight: &Flight) -> Option<usize>
     ensures is { λ r. ⌜ r ≡ goalOf (now (turned .entry)) (now (flight .entry)) ⌝ }
     ensures within { λ r. ⌜ BySome r (Unit {0}) (λ q. q < 8) ⌝ }
 {
@@ -67,7 +67,7 @@ fn is_late(plan: &Plan, turned: &[bool; 8], t: u32, flight: &Flight) -> bool
 
 impl Inner {
     // The place of a processor that has not turned, or row 10 or 12.
-    pub fn seat(&self, plan: &Plan, p: u32) -> Result<usize, Refusal>
+    pub(crate) fn seat(&self, plan: &Plan, p: u32) -> Result<usize, Refusal>
         ensures is { λ r. ⌜ r ≡ seat (setupOf (now (plan .entry))) (coreOf (now (self .entry))) p ⌝ }
         ensures within { λ r. ⌜ made r (λ q. q < 8) ⌝ }
     {

@@ -58,7 +58,7 @@ fn goals_for(plan: &Plan, owed: &Owed) -> [bool; 8]
 
 impl Inner {
     // What the clock of the processor at place q reads.
-    pub fn reading(&self, q: usize) -> u64
+    pub(crate) fn reading(&self, q: usize) -> u64
         requires { ⌜ q < 8 ⌝ }
         ensures { λ r. ⌜ r ≡ readingAt (coreOf (now (self .entry))) q ⌝ }
     {

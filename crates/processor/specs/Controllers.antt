@@ -29,9 +29,9 @@ controller s p = record { plan = s; part = p }
 abbrev pub controllerOf : {K : Type 0} → Processor K → Controller
 controllerOf c = controller (setupIn (c .plan)) (c .part)
 
--- row 10: `own` is a processor
+-- row 10: a processor is numbered 1 to n
 abbrev pub isProcessor : Setup → ℕ → Bool
-isProcessor s own = leb 1 own && leb own (s .n)
+isProcessor s p = leb 1 p && leb p (s .n)
 
 -- the setup of a run that `own` takes part in, or the first of rows 1 to 4 and 10 that applies
 abbrev pub seated : ℕ → ℕ → ℕ → ℕ → List Appointment → ℕ → Meaning → Result Setup Refusal
