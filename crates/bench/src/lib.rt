@@ -1,4 +1,6 @@
 // The bench: three to eight processor parts, their clocks, and the frames between them.
+#![tactic(auto)]
+
 mod clocks;
 mod flights;
 mod make;

@@ -1,4 +1,6 @@
 // Frames: a header of ten bytes, and one to eight links of five bytes each.
+#![tactic(auto)]
+
 mod frame;
 mod link;
 mod reader;

@@ -1,4 +1,6 @@
 // Reads the lines of a run script, from bytes.
+#![tactic(auto)]
+
 mod digits;
 mod forms;
 mod line;

@@ -1,4 +1,6 @@
 // Plans: the sizes and the agenda of a run, tested once and for all.
+#![tactic(auto)]
+
 mod fits;
 mod make;
 mod plan;

@@ -1,4 +1,6 @@
 // Plays the run script on standard input, and writes its transcript to standard output.
+#![tactic(auto)]
+
 use std::io::{Read, Write};
 
 fn main(rt: HostRuntime) -> anyhow::Result<()> {

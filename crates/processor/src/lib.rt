@@ -1,4 +1,6 @@
 // The part that a controller runs.
+#![tactic(auto)]
+
 mod agenda;
 mod bags;
 mod broadcasts;

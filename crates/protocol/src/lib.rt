@@ -1,4 +1,6 @@
 // Signed agreement by the clock: the theorem.
+#![tactic(auto)]
+
 ghost use Rattle.protocol.specs.Agreement.{Agreement};
 ghost use Rattle.protocol.specs.Example.{Happens};
 

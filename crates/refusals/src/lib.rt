@@ -1,4 +1,6 @@
 // Refusals: the rows of the table, their numbers, places and names.
+#![tactic(auto)]
+
 mod names;
 mod refusal;
 mod rows;

@@ -1,4 +1,6 @@
 // Plays a run script: its text in, the transcript out.
+#![tactic(auto)]
+
 mod answer;
 mod calls;
 mod player;

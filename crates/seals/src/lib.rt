@@ -1,4 +1,6 @@
 // Seal schemes: what a scheme is asked, and two schemes.
+#![tactic(auto)]
+
 mod book;
 mod books;
 mod deck;

@@ -1,4 +1,6 @@
 // Plays the scripts that its arguments name, and says of each whether it printed its stored transcript.
+#![tactic(auto)]
+
 use std::{env, fs};
 
 fn play(rt: &HostRuntime, name: &str) -> anyhow::Result<()> {
