@@ -11,8 +11,8 @@ listed c = omega (arith, c.args.self.now.places, (room_more c.args.self.now c.ar
 pub bounds-self-used : goal.bounds-self-used
 bounds-self-used c = (room_more c.args.self.now c.args.signer c.requires.signer c.requires.room).0
 
-pub invariant-of-self : goal.invariant-of-self
-invariant-of-self c =
+pub invariant_of-self : goal.invariant_of-self
+invariant_of-self c =
     let b = c.args.self.now in
     let es = (book_of b).triples in
     let x = triple c.args.signer c.args.text.now c.args.seal in
@@ -22,7 +22,7 @@ invariant-of-self c =
     let space = subst (λ (l : List ℕ). b.used + 1 + sum l ≤ 512) (sym c.lower.ensures) room.1 in
     let once = subst (λ l. single l ≡ true) (sym more) (single_push es x b.once c.requires.fresh) in
     let signers = subst (λ l. all_known l ≡ true) (sym more) (all_known_push es x b.signers c.requires.signer) in
-    (length-set _ _ _ ∙ b.places, (eight, (space, (once, (signers, tt)))))
+    record { places = length-set _ _ _ ∙ b.places; eight = eight; space = space; once = once; signers = signers }
 
 pub returns : goal.returns
 returns c =

@@ -8,4 +8,4 @@ front_of : (t u zs : List ℕ) → u ≡ t → take (length t) (u ++ zs) ≡ t
 front_of t u zs e = ap (λ l. take (length t) (l ++ zs)) e ∙ take_at t zs (length t) refl
 
 pub returns : goal.returns
-returns c = ap (λ l. triple c.args.signer l c.args.seal) (front_of c.args.text.now _ _ c.copy-from-slice.ensures.after)
+returns c = ap (λ l. triple c.args.signer l c.args.seal) (front_of c.args.text.now _ _ c.copy_from_slice.ensures.after)
