@@ -12,10 +12,10 @@ returns c =
     let head = header c.args.item c.args.value (length ps) in
     let out = c.args.out.now in
     let few = le-leb (length ps) 8 (omega arith) in
-    let copied = c.copy-from-slice.ensures.after in
+    let copied = c.copy_from_slice.ensures.after in
     let size : length (head ++ ps) ≡ 10 + length ps = omega arith in
     let room : 10 + length ps ≤ 18 = omega arith in
-    let wrote = put_next head out c.write-header.new.buf c.write-header.ensures c.copy-from-slice.new.self 10 _ refl (omega (arith, ap length copied)) ∙ ap (λ l. placed (head ++ l) out) copied in
+    let wrote = put_next head out c.write_header.new.buf c.write_header.ensures c.copy_from_slice.new.self 10 _ refl (omega (arith, ap length copied)) ∙ ap (λ l. placed (head ++ l) out) copied in
     record {
       answer = sym (cond-true _ _ _ few);
       bytes = wrote ∙ sym (cond-true _ _ _ few);

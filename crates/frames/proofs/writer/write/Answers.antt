@@ -15,12 +15,12 @@ returns c =
     let s = length ls in
     let f = fields c.args.item c.args.value ls in
     let head = header c.args.item c.args.value s in
-    let b = c.write-header.new.buf in
+    let b = c.write_header.new.buf in
     let fine = and_from _ _ (le-leb 1 s (omega arith)) (and_from _ _ (le-leb s 8 (omega arith)) (le-leb (size_of s) (length e) (omega arith))) in
-    let ten = take_placed head e b c.write-header.ensures 10 refl in
-    let wrote : c.write-links.new.buf ≡ placed (encode f) e = c.write-links.ensures.bytes ∙ ap (λ h. placed (h ++ flat_map link_bytes ls) b) ten ∙ placed_again head e b c.write-header.ensures (flat_map link_bytes ls) in
+    let ten = take_placed head e b c.write_header.ensures 10 refl in
+    let wrote : c.write_links.new.buf ≡ placed (encode f) e = c.write_links.ensures.bytes ∙ ap (λ h. placed (h ++ flat_map link_bytes ls) b) ten ∙ placed_again head e b c.write_header.ensures (flat_map link_bytes ls) in
     record {
       answer = sym (cond-true _ _ _ fine);
       bytes = wrote ∙ sym (cond-true _ _ _ fine);
-      again = ap decode (take_placed (encode f) e c.write-links.new.buf wrote (size_of s) (omega (arith, length_links ls))) ∙ read_written f (omega arith) (omega arith) (omega arith) c.write-links.ensures.small;
+      again = ap decode (take_placed (encode f) e c.write_links.new.buf wrote (size_of s) (omega (arith, length_links ls))) ∙ read_written f (omega arith) (omega arith) (omega arith) c.write_links.ensures.small;
     }

@@ -23,9 +23,9 @@ returns c =
     let size : length given ≡ k = ap length first ∙ length-map (take k ls) number ∙ length-take-le k ls (omega arith) in
     let few = le-leb (length given) 8 (omega arith) in
     let is = and_from _ _ (le-leb 1 k (omega arith)) (le-leb k (length ls) (omega arith)) in
-    let At : List ℕ → Type 0 = λ ps. MatchOption c.link-text.result (c.link-text.new.out ≡ out) (λ n. (n ≤ 18) × (take n c.link-text.new.out ≡ text_for f.item f.value ps)) in
+    let At : List ℕ → Type 0 = λ ps. MatchOption c.link_text.result (c.link_text.new.out ≡ out) (λ n. (n ≤ 18) × (take n c.link_text.new.out ≡ text_for f.item f.value ps)) in
     record {
-      answer = c.link-text.ensures.answer ∙ cond-true _ _ _ few ∙ ap (λ n. Some (10 + n)) size ∙ sym (cond-true _ _ _ is);
-      bytes = c.link-text.ensures.bytes ∙ cond-true _ _ _ few ∙ ap (λ ps. placed (text_for f.item f.value ps) out) first ∙ sym (cond-true _ _ _ is);
-      front = subst At first c.link-text.ensures.front;
+      answer = c.link_text.ensures.answer ∙ cond-true _ _ _ few ∙ ap (λ n. Some (10 + n)) size ∙ sym (cond-true _ _ _ is);
+      bytes = c.link_text.ensures.bytes ∙ cond-true _ _ _ few ∙ ap (λ ps. placed (text_for f.item f.value ps) out) first ∙ sym (cond-true _ _ _ is);
+      front = subst At first c.link_text.ensures.front;
     }
