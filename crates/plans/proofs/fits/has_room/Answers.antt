@@ -1,4 +1,4 @@
-use Rattle.std.proofs.Common.{◌≡◌, ℕ, ◌+◌, Bool, true, false, not, ltb, is_some, sym, ap, ◌∙◌, arith, rules}
+use Rattle.std.proofs.Common.{◌≡◌, ℕ, ◌+◌, Bool, true, false, not, ltb, is_some, sym, ap, arith, rules}
 use Rattle.refusals.proofs.Firsts.{first_none, first_more, first_stop}
 use Rattle.seals.specs.Meanings.{left_of}
 use Rattle.plans.proofs.fits.has_room.Goals as goal

@@ -1,4 +1,4 @@
-use Rattle.std.proofs.Common.{◌≡◌, ℕ, ◌+◌, Bool, true, false, not, ltb, is_some, sym, ap, ◌∙◌, arith, rules}
+use Rattle.std.proofs.Common.{◌≡◌, ℕ, ◌+◌, Bool, true, false, not, ltb, is_some, sym, ap, arith, rules}
 use Rattle.refusals.proofs.Firsts.{first_none, first_more, first_stop}
 use Rattle.seals.specs.Meanings.{count_for}
 use Rattle.plans.proofs.fits.is_unused.Goals as goal
