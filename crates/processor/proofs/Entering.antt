@@ -5,7 +5,6 @@ use Rattle.refusals.specs.declared.refusal.Refusal.{Refusal}
 use Rattle.processor.specs.declared.part.Bag.{Bag}
 use Rattle.processor.specs.declared.part.Bag.TheVariants.{Empty}
 use Rattle.processor.specs.declared.part.Part.{Part}
-use Rattle.processor.specs.declared.bags.Outcome.{Outcome}
 use Rattle.processor.specs.declared.bags.Outcome.TheVariants.{Refused}
 use Rattle.processor.specs.Parts.{bag_of}
 use Rattle.processor.specs.Steps.{after_on}

@@ -1,5 +1,5 @@
 -- What receiving a frame answers and leaves.
-use Rattle.std.specs.Prelude.{ℕ, ◌+◌, Bool, false, cond, List, length, Some, None, Ok, Err, Option, Result, ◌==◌, nat_le}
+use Rattle.std.specs.Prelude.{ℕ, ◌+◌, Bool, false, cond, List, length, Some, None, Ok, Option, Result, ◌==◌, nat_le}
 use Rattle.refusals.specs.declared.refusal.Refusal.{Refusal}
 use Rattle.refusals.specs.declared.refusal.Refusal.TheVariants.{Row, Code, Long, First}
 use Rattle.seals.specs.Meanings.{Triple}

@@ -1,4 +1,4 @@
-use Rattle.std.proofs.Common.{◌≡◌, ℕ, ◌||◌, List, [], ◌∷◌, take, sym, refl, ap, ◌∙◌}
+use Rattle.std.proofs.Common.{ℕ, ◌||◌, List, [], ◌∷◌, take, sym, refl, ap, ◌∙◌}
 use Rattle.std.proofs.lemmas.List.{take-map}
 use Rattle.std.proofs.lemmas.Bool.{ne_eqb}
 use Rattle.frames.specs.declared.link.Link.{Link}
@@ -15,4 +15,4 @@ returns-else-self-p c =
     let links : List Link = o.first ∷ o.second ∷ o.third ∷ o.fourth ∷ o.fifth ∷ o.sixth ∷ [] in
     let number : Link → ℕ = λ l. l.processor in
     let so_far = ap (λ k. take k (numbers_of links)) c.min.ensures ∙ take_min o.count 6 (numbers_of links) refl ∙ take-map number o.count links in
-    c.is-in.ensures ∙ ap (λ l. is_in l p) so_far ∙ ap (λ b. b || is_in (numbers_of (links_in o)) p) (sym (ne_eqb _ _ c.if-self-p.false))
+    c.is_in.ensures ∙ ap (λ l. is_in l p) so_far ∙ ap (λ b. b || is_in (numbers_of (links_in o)) p) (sym (ne_eqb _ _ c.if-self-p.false))
