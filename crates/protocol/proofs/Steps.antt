@@ -1,7 +1,7 @@
 -- Each move is, for each item, a Pass or a Gain; and once decisions may stand, nothing is gained any more.
-use Rattle.std.proofs.Common.{◌≡◌, ℕ, suc, ◌+◌, ◌*◌, ◌<◌, ◌≤◌, true, false, ◌⊎◌, List, [], ◌∷◌, length, sym, ap, ◌∙◌, subst, inl, inr, mul-le-mul_right, arith}
+use Rattle.std.proofs.Common.{◌≡◌, ℕ, suc, ◌+◌, ◌<◌, ◌≤◌, true, false, ◌⊎◌, List, [], ◌∷◌, length, sym, ap, ◌∙◌, subst, inl, inr, mul-le-mul_right, arith}
 use native.Mathlib.Decide.{ℕ_discrete, dec_le, dec_lt}
-use Rattle.protocol.specs.Model.{Plan, State, Verdict, empty, closed, Seat, Seats, Distinct, Chain, fresh, reading, Acceptable}
+use Rattle.protocol.specs.Model.{Plan, State, Verdict, empty, closed, Seat, Seats, Distinct, Chain, fresh, Acceptable}
 use Rattle.protocol.specs.Moves.{SameOffsets, SameTurned, OldFlights, OldWays, Ticks, Sets, Turns, Forges, Takes, Broadcasts, Calm, Opens, Relays, Keeps, Drops, Decides, Move, ticks, sets, turns, forges, opens, relays, keeps, drops, decides, Start}
 use Rattle.protocol.proofs.Words.{In, Holds, Covered, Sane, NonEmpty, true_false, else_false, in_not, pick, chain_up, chain_in, began_in, began_more, seats_in, covered_stale, covered_old, filled}
 use Rattle.protocol.proofs.Invariants.{Ground, Late, Flown, Lawful, relayed, ended, Inv, Ends, Pass, New, Gain}
