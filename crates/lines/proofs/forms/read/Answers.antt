@@ -8,5 +8,5 @@ use Rattle.lines.proofs.forms.read.Goals as goal
 pub returns : goal.returns
 unfolding read_line
 returns c =
-    let P : WordList → Type 0 = λ ws. IfOk c.read-words.result (λ o. option_map viewed o ≡ line_form ws) in
-    subst P c.new.ensures c.read-words.ensures
+    let P : WordList → Type 0 = λ ws. IfOk c.read_words.result (λ o. option_map viewed o ≡ line_form ws) in
+    subst P c.new.ensures c.read_words.ensures

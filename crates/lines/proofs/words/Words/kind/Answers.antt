@@ -4,8 +4,8 @@ use Rattle.lines.specs.Grammar.{kinds}
 use Rattle.lines.proofs.Naming.{no_text, unknown}
 use Rattle.lines.proofs.words.Words.kind.Goals as goal
 
-pub returns-in-err-text : goal.returns-in-err-text
-returns-in-err-text c = record { value = c.from-residual.ensures ∙ no_text kinds _ refl c.in-err-text.ensures.value; after = c.text.ensures.after }
+pub returns-in_err-text : goal.returns-in_err-text
+returns-in_err-text c = record { value = c.from_residual.ensures ∙ no_text kinds _ refl c.in_err-text.ensures.value; after = c.text.ensures.after }
 
-pub returns-in-default : goal.returns-in-default
-returns-in-default c = record { value = unknown kinds _ _ c.in-ok-text.ensures.value (c.in-default.not-setpoint, (c.in-default.not_step, tt)); after = c.text.ensures.after }
+pub returns-in_default : goal.returns-in_default
+returns-in_default c = record { value = unknown kinds _ _ c.in_ok-text.ensures.value (c.in_default.not-setpoint, (c.in_default.not-step, tt)); after = c.text.ensures.after }
