@@ -5,7 +5,10 @@ use Rattle.std.proofs.lemmas.Bool.{not-true, cases_Bool, and_parts, and_left, an
 use Rattle.refusals.specs.declared.refusal.Refusal.{Refusal}
 use Rattle.seals.specs.Meanings.{Triple, Meaning, seal_of, left_of, count_for, Tidy}
 use Rattle.plans.specs.declared.plan.Appointment.{Appointment}
-use Rattle.plans.specs.Setups.{Setup, setup, sizes_fit, item_fits, items_fit, agenda_fits, planned}
+use Rattle.plans.specs.declared.plan.Plan.{Plan}
+use Rattle.plans.specs.Readings.{latest}
+use Rattle.plans.proofs.Bounds.{agenda_timely}
+use Rattle.plans.specs.Setups.{Setup, setup, setup_of, setup_in, sizes_fit, item_fits, items_fit, agenda_fits, planned}
 use Rattle.plans.specs.Schemes.{has_room, is_unused, served, prepared}
 use Rattle.processor.specs.declared.part.Bag.TheVariants.{Empty}
 use Rattle.processor.specs.declared.part.Part.{Part}
@@ -46,6 +49,10 @@ served_serves m (Err r) s h = no_ok r s h
 
 pub prepared_fits : (n f d e : ℕ) (agenda : List Appointment) (scheme : Meaning) (s : Setup) → prepared n f d e agenda scheme ≡ Ok s → Fits s
 prepared_fits n f d e agenda scheme s h = planned_fits n f d e agenda s (served_serves scheme (planned n f d e agenda) s h).0
+
+-- each reading of a plan that was made is at most 1,000,000
+pub made_timely : (r : Result Plan Refusal) (n f d e : ℕ) (agenda : List Appointment) (scheme : Meaning) → setup_in r ≡ prepared n f d e agenda scheme → (p : Plan) → r ≡ Ok p → latest (setup_of p).agenda ≤ 1000000
+made_timely r n f d e agenda scheme h p is = agenda_timely p.n (setup_of p).agenda (prepared_fits n f d e agenda scheme (setup_of p) (sym h ∙ ap setup_in is)).items
 
 item_fits_at : (n : ℕ) (agenda : List Appointment) (k : ℕ) (none : Appointment) → items_fit n agenda ≡ true → k < length agenda → item_fits n (get_or agenda k none) ≡ true
 item_fits_at n [] k none h l = absurd (omega arith)

@@ -68,6 +68,7 @@ impl Inner {
         ensures core { core_of self.new ≡ marks (core_of self.old) i q }
         ensures room { length self.new.flights ≡ 120 }
         ensures count { self.new.count ≡ self.old.count }
+        ensures plan { self.new.plan ≡ self.old.plan }
     {
         mark(&mut self.flights[i], q);
     }
@@ -80,6 +81,7 @@ impl Inner {
         ensures number { result ≡ length (core_of self.old).flights + 1 }
         ensures room { length self.new.flights ≡ 120 }
         ensures count { self.new.count ≡ self.old.count + 1 }
+        ensures plan { self.new.plan ≡ self.old.plan }
     {
         let at = self.count;
         self.flights[at] = flight;

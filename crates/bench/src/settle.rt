@@ -1,5 +1,6 @@
 // Settling: every delivery that is left, then time, then every decision.
 ghost use Rattle.std.specs.Prelude.{◌≡◌, ℕ, ◌<◌, ◌≤◌, length, IfSome, None};
+ghost use Rattle.plans.specs.Readings.{latest};
 ghost use Rattle.plans.specs.Setups.{setup_of};
 ghost use Rattle.bench.specs.Model.{core_of, model_of};
 ghost use Rattle.bench.specs.Flights.{on_core};
@@ -58,6 +59,7 @@ impl<S: Scheme, K: Kind> Bench<S, K> {
 
     // Now rises until every item is over, unless it is past that.
     fn rise(&mut self, plan: &Plan)
+        requires { latest (setup_of plan.now).agenda ≤ 1000000 }
         ensures { model_of S.Scheme.meaning self.new ≡ on_core (model_of S.Scheme.meaning self.old) (risen (setup_of plan.now) (model_of S.Scheme.meaning self.old).core) }
     {
         let over = end(plan, plan.latest());

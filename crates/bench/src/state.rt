@@ -1,5 +1,8 @@
 // The bench's state: n parts, their clocks, and the broadcasts under way.
 ghost use Rattle.std.specs.Prelude.{◌≡◌, ◌≤◌, length};
+ghost use Rattle.std.specs.Result.{ForOk};
+ghost use Rattle.plans.specs.Readings.{latest};
+ghost use Rattle.plans.specs.Setups.{setup_of};
 
 use plans::Plan;
 use processor::Part;
@@ -39,4 +42,5 @@ pub struct Bench<S, K> {
     pub(crate) kind: K,
     ghost room: { length inner.flights ≡ 120 },
     ghost few: { inner.count ≤ 120 },
+    ghost timely: { ForOk inner.plan (λ p. latest (setup_of p).agenda ≤ 1000000) },
 }

@@ -16,4 +16,4 @@ loop-p-preserved g c =
     let k = c.args.plan.now.count in
     let p = c.loop-p.p in
     let decide : Model → Model = λ x. on_core x (decides_items (p + 1) k x.core) in
-    c.decide-items.ensures ∙ ap decide c.loop-p.invariant ∙ ap (on_core m) (all_more p k m.core)
+    c.decide_items.ensures ∙ ap decide c.loop-p.invariant ∙ ap (on_core m) (all_more p k m.core)

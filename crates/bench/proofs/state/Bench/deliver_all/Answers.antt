@@ -9,8 +9,8 @@ use Rattle.bench.proofs.state.Bench.deliver_all.Goals as goal
 pub loop-i-init : goal.loop-i-init
 loop-i-init g c = (Delivered.none, omega arith)
 
-pub overflow-add-done : goal.overflow-add-done
-overflow-add-done g c =
+pub overflow_add-done : goal.overflow_add-done
+overflow_add-done g c =
     let x = c.args.self.now in
     let few : length (take x.inner.count x.inner.flights) ≤ 120 = simp length-take (omega (arith, x.few)) in
     omega (arith, weight_few (take x.inner.count x.inner.flights) few, c.loop-i.invariant.1)

@@ -16,4 +16,5 @@ returns c =
       core = ap (with_flights (core_of x)) (inside ∙ ap (set (take x.count x.flights) i) ended);
       room = length-set _ _ _ ∙ c.requires.room;
       count = refl;
+      plan = refl;
     }

@@ -27,7 +27,7 @@ returns-in-Some c =
 pub loop-i-preserved : goal.loop-i-preserved
 loop-i-preserved c =
     let x = c.args.self.now in
-    first_more (has_goal (core_of x)) c.loop-i.i c.loop-i.invariant (ap is_some (goal_is x c.loop-i.i (omega arith) ∙ sym c.in-default.ensures.is))
+    first_more (has_goal (core_of x)) c.loop-i.i c.loop-i.invariant (ap is_some (goal_is x c.loop-i.i (omega arith) ∙ sym c.in_default.ensures.is))
 
 pub returns : goal.returns
 unfolding next

@@ -19,19 +19,19 @@ late_is s x t i h = ap (is_late s x.turned t) (get_or-take x.count x.flights i n
 pub loop-i-init : goal.loop-i-init
 loop-i-init c = first_none _
 
-pub returns-then-is-late : goal.returns-then-is-late
-returns-then-is-late c =
+pub returns-then-is_late : goal.returns-then-is_late
+returns-then-is_late c =
     let x = c.args.self.now in
     let s = setup_of c.args.plan.now in
     let i = c.loop-i.i in
     let lt : i < length (take x.count x.flights) = simp length-take (omega (arith, c.requires.room)) in
-    ap (option_map (λ k. k + 1)) (sym (first_stop (late s x c.args.t) i _ lt c.loop-i.invariant (late_is s x c.args.t i (omega arith) ∙ sym c.if-is-late.ensures)))
+    ap (option_map (λ k. k + 1)) (sym (first_stop (late s x c.args.t) i _ lt c.loop-i.invariant (late_is s x c.args.t i (omega arith) ∙ sym c.if-is_late.ensures)))
 
 pub loop-i-preserved : goal.loop-i-preserved
 loop-i-preserved c =
     let x = c.args.self.now in
     let s = setup_of c.args.plan.now in
-    first_more (late s x c.args.t) c.loop-i.i c.loop-i.invariant (late_is s x c.args.t c.loop-i.i (omega arith) ∙ sym c.if-is-late.ensures)
+    first_more (late s x c.args.t) c.loop-i.i c.loop-i.invariant (late_is s x c.args.t c.loop-i.i (omega arith) ∙ sym c.if-is_late.ensures)
 
 pub returns : goal.returns
 returns c =

@@ -13,4 +13,5 @@ returns c =
       number = simp length-take (omega (arith, c.requires.room, c.requires.few));
       room = length-set _ _ _ ∙ c.requires.room;
       count = refl;
+      plan = refl;
     }
