@@ -1,6 +1,6 @@
 -- What signing leaves: who has sealed what, and how many each signer has left.
 use Rattle.std.proofs.Common.{◌≡◌, ℕ, ◌+◌, ◌-◌, ◌^◌, ◌<◌, ◌≤◌, Bool, true, false, cond, not, ◌&&◌, ◌||◌, eqb, leb, ◌⊎◌, List, [], ◌∷◌, ◌++◌, length, get_or, is_some, Some, None, Ok, Err, Option, sym, refl, ap, ◌∙◌, subst, inl, inr, arith}
-use Rattle.std.specs.List.{AllByRecursion as All}
+use Rattle.std.specs.List.{AllByRecursion}
 use Rattle.std.proofs.lemmas.Slice.Eq.{bytes_eq-Decides}
 use Rattle.std.proofs.lemmas.List.{append-nil, get_or-set_same, get_or-set_other, length-set}
 use Rattle.std.proofs.lemmas.Bool.{cases_Bool, eq-eqb, eqb-true, eqb-false, and_parts, and_from, or_cases, or_left, or_right, leb-true, le-leb, ne_eqb, cond-true, cond-false, both_ways}
@@ -86,7 +86,7 @@ has_back (e ∷ ts) p u s a t h = go (or_cases _ _ (sym (has_cons e (ts ++ tripl
     go (inr k) ih = on (ih k)
 
 -- a seal is one of the triples'
-pub holds_small : (ts : List Triple) (p : ℕ) (t : List ℕ) (s : ℕ) → All (λ e. e.seal < 2 ^ 32) ts → holds ts p t s ≡ true → s < 2 ^ 32
+pub holds_small : (ts : List Triple) (p : ℕ) (t : List ℕ) (s : ℕ) → AllByRecursion (λ e. e.seal < 2 ^ 32) ts → holds ts p t s ≡ true → s < 2 ^ 32
 holds_small [] p t s a h = absurd (both_ways false refl h)
 holds_small (e ∷ ts) p t s a h = go (or_cases (is_of p t e && eqb e.seal s) _ h) (holds_small ts p t s a.1)
   where
@@ -124,13 +124,13 @@ refused_same m p t z e h = go (signs m p t z)
     go (anew a k l new) = let is : Err e ≡ Ok z = sym h ∙ a in let no : ◌≡◌ {A = ℕ} 0 1 = cc in absurd (omega arith)
 
 -- the triples after signing are those before, and perhaps more with the new seal
-pub signed_grows : (m : Meaning) (p : ℕ) (t : List ℕ) (z : ℕ) → (us : List Triple) × ((signed m p t z).triples ≡ m.triples ++ us) × All (λ e. e.seal ≡ z) us
+pub signed_grows : (m : Meaning) (p : ℕ) (t : List ℕ) (z : ℕ) → (us : List Triple) × ((signed m p t z).triples ≡ m.triples ++ us) × AllByRecursion (λ e. e.seal ≡ z) us
 signed_grows m p t z = go (signs m p t z)
   where
-    none : signed m p t z ≡ m → (us : List Triple) × ((signed m p t z).triples ≡ m.triples ++ us) × All (λ e. e.seal ≡ z) us
+    none : signed m p t z ≡ m → (us : List Triple) × ((signed m p t z).triples ≡ m.triples ++ us) × AllByRecursion (λ e. e.seal ≡ z) us
     none e = ([], ap (λ (x : Meaning). x.triples) e ∙ sym (append-nil m.triples), tt)
 
-    go : Signs m p t z → (us : List Triple) × ((signed m p t z).triples ≡ m.triples ++ us) × All (λ e. e.seal ≡ z) us
+    go : Signs m p t z → (us : List Triple) × ((signed m p t z).triples ≡ m.triples ++ us) × AllByRecursion (λ e. e.seal ≡ z) us
     go (refused r a e) = none e
     go (again s a o e) = none e
     go (anew a k l e) = (triple p t z ∷ [], ap (λ (x : Meaning). x.triples) e, (refl, tt))

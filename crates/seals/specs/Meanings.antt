@@ -1,6 +1,6 @@
 -- What a seal scheme means, and what its functions answer and leave.
 use Rattle.std.specs.Prelude.{◌≡◌, ℕ, ◌-◌, ◌^◌, ◌<◌, ◌≤◌, Bool, true, false, cond, not, ◌&&◌, ◌||◌, List, [], ◌∷◌, ◌++◌, length, is_some, Some, None, Ok, Err, count_by, Option, Result, ◌==◌, nat_eq, nat_le, slice_index, slice_index_or, slice_set}
-use Rattle.std.specs.List.{AllByRecursion as All}
+use Rattle.std.specs.List.{AllByRecursion}
 use Rattle.std.specs.Str.{bytes_eq}
 use Rattle.refusals.specs.declared.refusal.Refusal.{Refusal}
 use Rattle.refusals.specs.declared.refusal.Refusal.TheVariants.{Signer, Text, Room}
@@ -97,8 +97,8 @@ given (Err e) = 0
 pub record Tidy (m : Meaning) : Type 0 where
   pub once : single m.triples ≡ true
   pub signers : all_known m.triples ≡ true
-  pub texts : All (λ e. length e.text ≤ m.longest) m.triples
-  pub seals : All (λ e. e.seal < 2 ^ 32) m.triples
+  pub texts : AllByRecursion (λ e. length e.text ≤ m.longest) m.triples
+  pub seals : AllByRecursion (λ e. e.seal < 2 ^ 32) m.triples
   pub eight : length m.room ≡ 8
   pub least : 1 ≤ m.longest
   pub most : m.longest ≤ 64
