@@ -3,7 +3,6 @@ use Rattle.std.proofs.Common.{◌≡◌, ℕ, zero, suc, ◌+◌, ◌-◌, ◌*�
 use mathlib.Core.List.{reverse-cons}
 use Rattle.std.proofs.lemmas.List.{get_or-map, length-map, length-reverse, reverse-append, reverse-reverse, take_all, take-map, take_more}
 use Rattle.std.proofs.lemmas.Bool.{and_from, and_parts, cases_eq, cond-false, eqb-false, eqb-true, eq-eqb, false≢true, leb-false, leb-true, le-leb, le-ltb, lt-leb, lt-ltb, ltb-false, ne_eqb, not-false, not_from_false, not_from_true, not-true, or_from, or_parts}
-use Rattle.refusals.specs.Places.{first}
 use Rattle.refusals.specs.declared.refusal.Refusal.{Refusal}
 use Rattle.refusals.specs.declared.refusal.Refusal.TheVariants.{Code, Early, First, Full, Late, Long, Own, Row, Same, Closed as IsClosed, Link as BadLink}
 use Rattle.seals.specs.Meanings.{Triple}

@@ -8,7 +8,7 @@ use Rattle.plans.specs.declared.plan.Appointment.{Appointment}
 use Rattle.plans.specs.declared.plan.Plan.{Plan}
 use Rattle.plans.specs.Readings.{latest}
 use Rattle.plans.proofs.Bounds.{agenda_timely}
-use Rattle.plans.specs.Setups.{Setup, setup, setup_of, setup_in, sizes_fit, item_fits, items_fit, agenda_fits, planned}
+use Rattle.plans.specs.Setups.{Setup, setup_of, setup_in, sizes_fit, item_fits, items_fit, agenda_fits, planned}
 use Rattle.plans.specs.Schemes.{has_room, is_unused, served, prepared}
 use Rattle.processor.specs.declared.part.Bag.TheVariants.{Empty}
 use Rattle.processor.specs.declared.part.Part.{Part}

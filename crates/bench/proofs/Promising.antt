@@ -3,7 +3,7 @@ use Rattle.std.proofs.Common.{◌≡◌, ℕ, zero, suc, ◌+◌, ◌<◌, ◌�
 use native.Mathlib.Decide.{ℕ_discrete}
 use Rattle.std.proofs.lemmas.List.{take_all}
 use Rattle.std.proofs.lemmas.List.Sums.{sum_by_more}
-use Rattle.std.proofs.lemmas.Bool.{cases_Bool, cond-true, cond-false, both_ways}
+use Rattle.std.proofs.lemmas.Bool.{cases_Bool, cond-true, both_ways}
 use Rattle.refusals.specs.Rows.{row_of}
 use Rattle.refusals.specs.declared.refusal.Refusal.{Refusal}
 use Rattle.seals.specs.Meanings.{Tidy}
@@ -14,7 +14,6 @@ use Rattle.processor.specs.declared.part.Bag as Kept
 use Rattle.processor.specs.declared.part.Bag.TheVariants.{Empty, One, Two, Closed}
 use Rattle.processor.specs.declared.part.Decision.{Decision}
 use Rattle.processor.specs.declared.part.Decision.TheVariants.{Default, Value}
-use Rattle.processor.specs.declared.part.Part.{Part}
 use Rattle.bench.specs.declared.state.Flight as Sent
 use Rattle.bench.specs.Model.{Model}
 use Rattle.bench.specs.Calls.{no_flight}

@@ -1,7 +1,7 @@
 -- Settling is quiet moves of the protocol, and finishes.
 use Rattle.std.proofs.Common.{◌≡◌, ℕ, zero, suc, ◌+◌, ◌-◌, ◌^◌, ◌<◌, ◌≤◌, Bool, true, false, cond, eqb, ltb, leb, ◌⊎◌, List, [], ◌∷◌, ◌++◌, length, get_or, replicate, is_some, Some, None, Ok, Err, Option, Result, sym, refl, ap, ◌∙◌, subst, inl, inr, arith}
 use native.Mathlib.Decide.{ℕ_discrete}
-use Rattle.std.specs.List.{AllByRecursion as All}
+use Rattle.std.specs.List.{AllByRecursion}
 use Rattle.std.proofs.ByRecursion.{All-append, All-take, All-weaker}
 use Rattle.std.proofs.lemmas.List.{append-nil, take_at}
 use Rattle.std.proofs.lemmas.Bool.{and_parts, not-true, both_ways}
@@ -47,7 +47,7 @@ use Rattle.bench.proofs.Refusing.{decides_stays}
 record Grows (z : ℕ) (x y : Meaning) : Type 0 where
   new : List Triple
   longer : y.triples ≡ x.triples ++ new
-  sealed : All (λ e. e.seal ≡ z) new
+  sealed : AllByRecursion (λ e. e.seal ≡ z) new
 
 grows_none : (z : ℕ) (x : Meaning) → Grows z x x
 grows_none z x = record { new = []; longer = sym (append-nil x.triples); sealed = tt }
@@ -55,11 +55,11 @@ grows_none z x = record { new = []; longer = sym (append-nil x.triples); sealed 
 -- what fits after fitted before, and back, where the new seal fits
 fits_before : (z : ℕ) (x y : Meaning) → Grows z x y → SealsFit y → SealsFit x
 fits_before z x y g h =
-    subst (All FourBytes) (take_at x.triples g.new (length x.triples) refl) (All-take FourBytes (length x.triples) _ (subst (All FourBytes) g.longer h))
+    subst (AllByRecursion FourBytes) (take_at x.triples g.new (length x.triples) refl) (All-take FourBytes (length x.triples) _ (subst (AllByRecursion FourBytes) g.longer h))
 
 fits_after : (z : ℕ) (x y : Meaning) → Grows z x y → z < 2 ^ 32 → SealsFit x → SealsFit y
 fits_after z x y g l h =
-    subst (All FourBytes) (sym g.longer) (All-append FourBytes x.triples g.new h (All-weaker (λ e. e.seal ≡ z) FourBytes (λ e k. omega arith) g.new g.sealed))
+    subst (AllByRecursion FourBytes) (sym g.longer) (All-append FourBytes x.triples g.new h (All-weaker (λ e. e.seal ≡ z) FourBytes (λ e k. omega arith) g.new g.sealed))
 
 -- what a receipt does to the triples, with z for the number of a new seal
 module _ (z : ℕ) where

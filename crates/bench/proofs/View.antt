@@ -1,6 +1,6 @@
 -- The state of the protocol that a model shows, and what holds of the models of a run.
 use Rattle.std.proofs.Common.{◌≡◌, ℕ, suc, ◌+◌, ◌^◌, ◌<◌, ◌≤◌, false, List, [], ◌∷◌, ◌++◌, length, get_or, Ok}
-use Rattle.std.specs.List.{AllByRecursion as All}
+use Rattle.std.specs.List.{AllByRecursion}
 use Rattle.seals.specs.Meanings.{Triple, Meaning, left_of}
 use Rattle.frames.specs.Bytes.{Fields, decoded, decode}
 use Rattle.processor.specs.Chains.{sealed}
@@ -60,7 +60,7 @@ abbrev pub FourBytes : Triple → Type 0
 FourBytes e = e.seal < 2 ^ 32
 
 abbrev pub SealsFit : Meaning → Type 0
-SealsFit x = All FourBytes x.triples
+SealsFit x = AllByRecursion FourBytes x.triples
 
 -- what holds of every model that a run leads to, besides what the protocol says
 pub record Sound (W : World) (m : Model) : Type 0 where

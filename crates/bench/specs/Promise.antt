@@ -1,5 +1,5 @@
 -- What is promised of every run of a bench.
-use Rattle.std.specs.Prelude.{◌≡◌, ℕ, zero, suc, ◌+◌, ◌-◌, ◌*◌, ◌<◌, ◌≤◌, Bool, true, false, cond, List, [], ◌∷◌, length, get_or, Some, None, Ok, Err, Option, slice_index_or}
+use Rattle.std.specs.Prelude.{◌≡◌, ℕ, zero, suc, ◌-◌, ◌*◌, ◌<◌, ◌≤◌, Bool, true, cond, List, get_or, Some, None, Ok, Option, slice_index_or}
 use Rattle.refusals.specs.Rows.{row_of, is_drop}
 use Rattle.refusals.specs.declared.refusal.Refusal.{Refusal}
 use Rattle.seals.specs.Meanings.{Tidy}

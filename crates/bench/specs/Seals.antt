@@ -1,5 +1,5 @@
 -- What sealing for a faulty processor answers and leaves.
-use Rattle.std.specs.Prelude.{ℕ, cond, not, List, Ok, Err, Result}
+use Rattle.std.specs.Prelude.{ℕ, cond, List, Err, Result}
 use Rattle.refusals.specs.declared.refusal.Refusal.{Refusal}
 use Rattle.refusals.specs.declared.refusal.Refusal.TheVariants.{Processor, Sound}
 use Rattle.seals.specs.Meanings.{answered, signed}

@@ -1,7 +1,7 @@
 -- The bytes of a frame.
 use Rattle.std.specs.Prelude.{ℕ, zero, suc, ◌+◌, ◌*◌, ◌/◌, ◌%◌, ◌^◌, ◌<◌, Bool, cond, ◌&&◌, List, [], ◌∷◌, ◌++◌, length, take, drop, Ok, Err, Result, ◌==◌, nat_le, slice_index, slice_index_or}
 use Rattle.std.specs.Int.Digits.{number_from_digits}
-use Rattle.std.specs.List.{flat_map, AllByRecursion as All}
+use Rattle.std.specs.List.{flat_map, AllByRecursion}
 use Rattle.refusals.specs.declared.refusal.Refusal.{Refusal}
 use Rattle.refusals.specs.declared.refusal.Refusal.TheVariants.{Frame}
 use Rattle.frames.specs.declared.link.Link.{Link}
@@ -75,4 +75,4 @@ written buf f = cond (fits buf f) (placed (encode f) buf) buf
 
 -- links as their types hold them
 abbrev pub Small : List Link → Type 0
-Small ls = All (λ l. (l.processor < 256) × (l.seal < 2 ^ 32)) ls
+Small ls = AllByRecursion (λ l. (l.processor < 256) × (l.seal < 2 ^ 32)) ls

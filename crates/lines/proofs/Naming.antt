@@ -1,6 +1,6 @@
 -- A word that a table does not have. Assumes nothing.
 use Rattle.std.proofs.Common.{◌≡◌, ℕ, ◌<◌, Bool, true, false, ◌&&◌, ltb, List, [], ◌∷◌, Some, None, IsUtf8, sym, refl, ap, ◌∙◌, subst, ⊎_elim}
-use Rattle.std.specs.List.{AllByRecursion as All}
+use Rattle.std.specs.List.{AllByRecursion}
 use Rattle.std.specs.Str.{bytes_eq}
 use Rattle.std.proofs.ByRecursion.{IsAscii-from_all}
 use Rattle.std.proofs.lemmas.Slice.Eq.{bytes_eq-Decides}
@@ -14,12 +14,12 @@ use Rattle.lines.specs.Left.{NoText}
 unlike : (a b : List ℕ) → (b ≡ a → ⊥) → bytes_eq a b ≡ false
 unlike a b differs = ⊎_elim (λ same. absurd (differs (sym ((bytes_eq-Decides a b).0 same)))) (λ apart. apart) (cases_Bool (bytes_eq a b))
 
-not_named : {A : Type 0} (es : List (List ℕ × A)) (w : List ℕ) → All (λ e. w ≡ e.0 → ⊥) es → named es w ≡ None
+not_named : {A : Type 0} (es : List (List ℕ × A)) (w : List ℕ) → AllByRecursion (λ e. w ≡ e.0 → ⊥) es → named es w ≡ None
 not_named [] w none = refl
 not_named (e ∷ es) w none = cond-false _ _ _ (unlike e.0 w none.0) ∙ not_named es w none.1
 
 -- a text that is none of a table's words
-pub unknown : {A : Type 0} (es : List (List ℕ × A)) (w : List ℕ) (words : WordList) → Some w ≡ head words → All (λ e. w ≡ e.0 → ⊥) es → None ≡ and_then (head words) (named es)
+pub unknown : {A : Type 0} (es : List (List ℕ × A)) (w : List ℕ) (words : WordList) → Some w ≡ head words → AllByRecursion (λ e. w ≡ e.0 → ⊥) es → None ≡ and_then (head words) (named es)
 unknown es w words is none = sym (ap (λ o. and_then o (named es)) (sym is) ∙ not_named es w none)
 
 abbrev plain : List ℕ → Bool
@@ -30,11 +30,11 @@ abbrev plain_words : {A : Type 0} → List (List ℕ × A) → Bool
 plain_words [] = true
 plain_words (e ∷ es) = plain e.0 && plain_words es
 
-plain_all : (bs : List ℕ) → plain bs ≡ true → All (λ b. b < 128) bs
+plain_all : (bs : List ℕ) → plain bs ≡ true → AllByRecursion (λ b. b < 128) bs
 plain_all [] p = tt
 plain_all (b ∷ bs) p = let q = and_parts _ _ p in (ltb-true b 128 q.0, plain_all bs q.1)
 
-no_plain_word : {A : Type 0} (es : List (List ℕ × A)) (w : List ℕ) → plain_words es ≡ true → (IsUtf8 w → ⊥) → All (λ e. w ≡ e.0 → ⊥) es
+no_plain_word : {A : Type 0} (es : List (List ℕ × A)) (w : List ℕ) → plain_words es ≡ true → (IsUtf8 w → ⊥) → AllByRecursion (λ e. w ≡ e.0 → ⊥) es
 no_plain_word [] w p no_text = tt
 no_plain_word (e ∷ es) w p no_text =
     let q = and_parts (plain e.0) (plain_words es) p in

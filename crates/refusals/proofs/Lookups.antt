@@ -1,6 +1,6 @@
 -- Looking up the table by a number and by a name.
 use Rattle.std.proofs.Common.{◌≡◌, ℕ, false, List, [], ◌∷◌, sym, refl, ◌∙◌, ⊎_elim}
-use Rattle.std.specs.List.{AllByRecursion as All}
+use Rattle.std.specs.List.{AllByRecursion}
 use Rattle.std.specs.Str.{bytes_eq}
 use Rattle.std.proofs.lemmas.Slice.Eq.{bytes_eq-Decides}
 use Rattle.std.proofs.lemmas.Bool.{cond-false, cases_Bool}
@@ -10,6 +10,6 @@ differ : (a b : List ℕ) → (b ≡ a → ⊥) → bytes_eq a b ≡ false
 differ a b no' = ⊎_elim (λ y. absurd (no' (sym ((bytes_eq-Decides a b).0 y)))) (λ n. n) (cases_Bool (bytes_eq a b))
 
 -- a name that no row has
-pub none_of : (es : List Entry) (t : List ℕ) → All (λ e. t ≡ e.name → ⊥) es → 0 ≡ numbered_in es t
+pub none_of : (es : List Entry) (t : List ℕ) → AllByRecursion (λ e. t ≡ e.name → ⊥) es → 0 ≡ numbered_in es t
 none_of [] t h = refl
 none_of (e ∷ es) t h = none_of es t h.1 ∙ sym (cond-false _ _ _ (differ e.name t h.0))

@@ -1,4 +1,4 @@
-use Rattle.std.proofs.Common.{◌≡◌, Some, None, sym, refl, ap, ◌∙◌, arith, rules}
+use Rattle.std.proofs.Common.{sym, arith, rules}
 use Rattle.bench.specs.Calls.{wants}
 use Rattle.refusals.proofs.Firsts.{first_none, first_more, first_stop}
 use Rattle.bench.proofs.clocks.goal_of.Goals as goal

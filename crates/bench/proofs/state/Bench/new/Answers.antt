@@ -1,8 +1,9 @@
-use Rattle.std.proofs.Common.{◌≡◌, sym, ap, ◌∙◌, subst}
-use Rattle.bench.specs.Model.{Model, Core, core_of}
+use Rattle.std.proofs.Common.{sym, ap, ◌∙◌, subst}
+use Rattle.bench.specs.Model.{Model, Core}
 use Rattle.bench.specs.Making.{fresh}
 use Rattle.bench.specs.Promise.{Promised}
 use Rattle.bench.proofs.Keeping.{made_promised}
+use Rattle.bench.proofs.Making.{made_timely}
 use Rattle.bench.proofs.state.Bench.new.Goals as goal
 
 pub returns : goal.returns
@@ -14,3 +15,8 @@ returns g c =
     let is = ap with-scheme (c.fresh.ensures.core ∙ ap fresh c.prepare-plan.ensures) in
     let kept = made_promised K.admitted K.same laws.reflexive laws.symmetric laws.transitive c.args.n c.args.f c.args.d c.args.e c.args.agenda.now scheme (g.met.S.Scheme.tidy c.args.scheme) in
     record { is = is; promise = subst (Promised K.admitted K.same) (sym is) kept }
+
+pub invariant_of-result-clause-timely : goal.invariant_of-result-clause-timely
+invariant_of-result-clause-timely g c =
+    let setup = ap (λ (k : Core). k.plan) c.fresh.ensures.core ∙ c.prepare-plan.ensures in
+    made_timely c.fresh.result.plan c.args.n c.args.f c.args.d c.args.e c.args.agenda.now (g.S.Scheme.meaning c.args.scheme) setup

@@ -1,4 +1,4 @@
-use Rattle.std.proofs.Common.{◌≡◌, take, set, sym, refl, ap, ◌∙◌, length-set, get_or-take}
+use Rattle.std.proofs.Common.{take, set, sym, refl, ap, ◌∙◌, length-set, get_or-take}
 use lib.Seq.{take-set-lt}
 use Rattle.bench.specs.Model.{core_of}
 use Rattle.bench.specs.Calls.{no_flight}

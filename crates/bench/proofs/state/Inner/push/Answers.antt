@@ -1,4 +1,4 @@
-use Rattle.std.proofs.Common.{◌≡◌, ◌<◌, length, refl, ap, ◌∙◌, arith, length-set, length-take}
+use Rattle.std.proofs.Common.{◌<◌, length, refl, ap, ◌∙◌, arith, length-set, length-take}
 use Rattle.std.proofs.lemmas.List.{take_more_set}
 use Rattle.bench.specs.Model.{core_of}
 use Rattle.bench.specs.Flights.{with_flights}
