@@ -1,6 +1,5 @@
 -- The bytes that are printed.
-use Rattle.std.specs.Prelude.{ℕ, zero, suc, ◌+◌, ◌/◌, ◌%◌, cond, List, [], ◌∷◌, ◌++◌, Some, None, Ok, Err, codes, decimal, Option, Result, nat_lt, slice_index_or}
-use Rattle.refusals.specs.declared.refusal.Refusal.{Refusal}
+use Rattle.std.specs.Prelude.{ℕ, zero, suc, ◌+◌, ◌/◌, ◌%◌, cond, List, [], ◌∷◌, ◌++◌, Some, None, codes, decimal, Option, nat_lt, slice_index_or}
 use Rattle.refusals.specs.Rows.{row_of, told_by}
 use Rattle.processor.specs.declared.part.Decision.{Decision}
 use Rattle.processor.specs.declared.part.Decision.TheVariants.{Default, Value}

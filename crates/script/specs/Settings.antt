@@ -1,5 +1,5 @@
 -- The lines before the start.
-use Rattle.std.specs.Prelude.{ℕ, List, [], ◌∷◌, ◌++◌, Some, None, vec_items, Option}
+use Rattle.std.specs.Prelude.{List, [], ◌∷◌, ◌++◌, Some, None, vec_items, Option}
 use Rattle.plans.specs.declared.plan.Appointment.{Appointment}
 use Rattle.lines.specs.Grammar.{LineRead, bench_line, item_line, start_line, set_line, turn_line, advance_line, seal_line, open_line, inject_line, deliver_line, decide_line}
 use Rattle.script.specs.declared.setting.Sizes.{Sizes}
