@@ -6,7 +6,7 @@ use Rattle.seals.specs.Meanings.{Meaning}
 use Rattle.bench.specs.declared.state.Inner.{Inner}
 use Rattle.bench.specs.Model.{Model, core_of}
 use Rattle.bench.specs.Calls.{no_flight}
-use Rattle.bench.specs.Flights.{bytes_of, receives}
+use Rattle.bench.specs.Flights.{bytes_of, lands, receives, arrives}
 
 -- what is received are the bytes of the flight at place i, of which the code takes the first k
 pub hears : (admitted : ℕ → Bool) (same : ℕ → ℕ → Bool) (s : Setup) (z i q k : ℕ) (x : Inner) (t : Meaning) (y : Result ℕ Refusal × Model)
@@ -19,3 +19,10 @@ hears admitted same s z i q k x t y inside short got =
     let frame = ap (λ j. take j fl.frame) short ∙ ap bytes_of (sym (get_or-take x.count x.flights i no_flight inside)) in
     let receiving : List ℕ → Result ℕ Refusal × Model = λ b. receives admitted same s z q b m in
     got ∙ ap receiving frame
+
+-- and its way ends as an arrival says
+pub landed : (admitted : ℕ → Bool) (same : ℕ → ℕ → Bool) (s : Setup) (z i q k : ℕ) (x : Inner) (t : Meaning) (y : Result ℕ Refusal × Model)
+    → i < x.count → k ≡ min (get_or x.flights i no_flight).length 45
+    → y ≡ receives admitted same s z q (take k (get_or x.flights i no_flight).frame) (record { core = core_of x; scheme = t })
+    → lands i q y ≡ arrives admitted same s z i q (record { core = core_of x; scheme = t })
+landed admitted same s z i q k x t y inside short got = ap (lands i q) (hears admitted same s z i q k x t y inside short got)
