@@ -7,7 +7,6 @@ pub loop-item-preserved : goal.loop-item-preserved
 loop-item-preserved c =
     let agenda = take c.args.self.now.count c.args.self.now.items in
     let here = at_drop_more latest agenda c.loop-item.item-index (record { sender = 0; reading = 0 }) c.loop-item-test.true in
-    let larger = c.max-latest.ensures in
     omega (arith, c.loop-item.invariant)
 
 pub returns : goal.returns
