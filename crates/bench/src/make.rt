@@ -7,7 +7,7 @@ ghost use Rattle.bench.specs.Promise.{Promised};
 
 use crate::state::{Bench, Flight, Inner};
 use kinds::Kind;
-use plans::{Appointment, Plan};
+use plans::{Appointment, Plan, Sizes};
 use processor::Part;
 use refusals::Refusal;
 use seals::Scheme;
@@ -49,11 +49,11 @@ fn fresh(plan: Result<Plan, Refusal>) -> Inner
 
 impl<S: Scheme, K: Kind> Bench<S, K> {
     // A bench of n processors, at most f of them faulty. Where that is refused, every call on it answers the refusal.
-    pub fn new(n: u32, f: u32, d: u32, e: u32, agenda: &[Appointment], scheme: S, kind: K) -> Self
-        ensures is { model_of S.Scheme.meaning result ≡ made n f d e agenda.now (S.Scheme.meaning scheme) }
+    pub fn new(sizes: Sizes, agenda: &[Appointment], scheme: S, kind: K) -> Self
+        ensures is { model_of S.Scheme.meaning result ≡ made sizes.n sizes.f sizes.d sizes.e agenda.now (S.Scheme.meaning scheme) }
         ensures promise { Promised K.Kind.admitted K.Kind.same (model_of S.Scheme.meaning result) }
     {
-        let plan = Plan::prepare(n, f, d, e, agenda, &scheme);
+        let plan = Plan::prepare(sizes, agenda, &scheme);
         Bench {
             inner: fresh(plan),
             scheme,

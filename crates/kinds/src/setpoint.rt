@@ -5,7 +5,7 @@ ghost use Rattle.std.proofs.Common.{rules};
 
 use crate::kind::Kind;
 
-#[derive(Clone, Copy)]
+#[derive(Clone, Copy, Debug, PartialEq, Eq)]
 pub struct Setpoint;
 
 impl Kind for Setpoint {
@@ -32,9 +32,6 @@ impl Kind for Setpoint {
     }
 
     fn are_same(&self, a: u64, b: u64) -> bool {
-        match self.admits(a) {
-            true => a == b,
-            false => false,
-        }
+        self.admits(a) && a == b
     }
 }

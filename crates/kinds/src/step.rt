@@ -5,7 +5,7 @@ ghost use Rattle.std.proofs.Common.{rules};
 
 use crate::kind::Kind;
 
-#[derive(Clone, Copy)]
+#[derive(Clone, Copy, Debug, PartialEq, Eq)]
 pub struct Step;
 
 impl Kind for Step {
@@ -32,9 +32,6 @@ impl Kind for Step {
 
     // The operator is left out.
     fn are_same(&self, a: u64, b: u64) -> bool {
-        match (self.admits(a), self.admits(b)) {
-            (true, true) => a >> 16 == b >> 16,
-            _ => false,
-        }
+        self.admits(a) && self.admits(b) && a >> 16 == b >> 16
     }
 }

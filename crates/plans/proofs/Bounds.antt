@@ -1,5 +1,6 @@
 -- What the tests of a plan tell.
-use Rattle.std.proofs.Common.{◌≡◌, ℕ, ◌+◌, ◌≤◌, true, leb, List, [], ◌∷◌, length, arith}
+use Rattle.std.specs.List.{fold}
+use Rattle.std.proofs.Common.{max, ◌∙◌, ◌≡◌, ℕ, ◌+◌, ◌≤◌, true, leb, List, [], ◌∷◌, length, arith}
 use Rattle.std.proofs.lemmas.Bool.{and_parts, leb-true}
 use Rattle.plans.specs.declared.plan.Appointment.{Appointment}
 use Rattle.plans.specs.Readings.{latest}
@@ -25,3 +26,8 @@ agenda_bounds n agenda h = leb-true _ _ (and_parts _ _ (and_parts _ _ h).1).0
 
 pub agenda_timely : (n : ℕ) (agenda : List Appointment) → agenda_fits n agenda ≡ true → latest agenda ≤ 1000000
 agenda_timely n agenda h = items_timely n agenda (and_parts _ _ (and_parts _ _ h).1).1
+
+-- the largest reading, gathered from the first item on
+pub latest_folded : (m : ℕ) (agenda : List Appointment) → fold (λ m a. max m a.reading) m agenda ≡ max m (latest agenda)
+latest_folded m [] = omega arith
+latest_folded m (a ∷ rest) = latest_folded (max m a.reading) rest ∙ omega arith

@@ -1,5 +1,6 @@
 -- What is agreed before a run, and when it is refused.
-use Rattle.std.specs.Prelude.{ℕ, ◌+◌, Bool, true, cond, ◌&&◌, List, [], ◌∷◌, length, take, Ok, Err, Result, nat_le}
+use Rattle.std.specs.Prelude.{ℕ, ◌+◌, Bool, cond, ◌&&◌, List, length, take, Ok, Err, Result, nat_le}
+use Rattle.std.specs.List.{list_all}
 use Rattle.refusals.specs.declared.refusal.Refusal.{Refusal}
 use Rattle.refusals.specs.declared.refusal.Refusal.TheVariants.{Size, Agenda}
 use Rattle.plans.specs.declared.plan.Appointment.{Appointment}
@@ -32,8 +33,7 @@ abbrev pub item_fits : ℕ → Appointment → Bool
 item_fits n a = nat_le 1 a.sender && (nat_le a.sender n && nat_le a.reading 1000000)
 
 abbrev pub items_fit : ℕ → List Appointment → Bool
-items_fit n [] = true
-items_fit n (a ∷ rest) = item_fits n a && items_fit n rest
+items_fit n agenda = list_all (item_fits n) agenda
 
 -- there are 1 to 8 items, and each fits
 abbrev pub agenda_fits : ℕ → List Appointment → Bool

@@ -3,7 +3,7 @@ ghost use Rattle.std.specs.Prelude.{◌≡◌};
 ghost use Rattle.plans.specs.Schemes.{has_room, is_unused, prepared};
 ghost use Rattle.plans.specs.Setups.{setup_in};
 
-use crate::plan::{Appointment, Plan};
+use crate::plan::{Appointment, Plan, Sizes};
 use refusals::Refusal;
 use seals::Scheme;
 
@@ -16,39 +16,26 @@ const SEALS: usize = 16;
 fn has_room<S: Scheme>(n: u8, scheme: &S) -> bool
     ensures { result ≡ has_room n (S.Scheme.meaning scheme.now) }
 {
-    for k in 0..n {
-        if scheme.left(k + 1) < SEALS {
-            return false;
-        }
-    }
-    true
+    (0..n).all(|k| scheme.left(k + 1) >= SEALS)
 }
 
 // Whether no signer up to n has a triple.
 fn is_unused<S: Scheme>(n: u8, scheme: &S) -> bool
     ensures { result ≡ is_unused n (S.Scheme.meaning scheme.now) }
 {
-    for k in 0..n {
-        if scheme.count(k + 1) > 0 {
-            return false;
-        }
-    }
-    true
+    (0..n).all(|k| scheme.count(k + 1) == 0)
 }
 
 impl Plan {
     // A plan of these sizes and this agenda for a run with the scheme, or row 1, 2, 3 or 4.
     pub fn prepare<S: Scheme>(
-        n: u32,
-        f: u32,
-        d: u32,
-        e: u32,
+        sizes: Sizes,
         agenda: &[Appointment],
         scheme: &S,
     ) -> Result<Plan, Refusal>
-        ensures { setup_in result ≡ prepared n f d e agenda.now (S.Scheme.meaning scheme.now) }
+        ensures { setup_in result ≡ prepared sizes.n sizes.f sizes.d sizes.e agenda.now (S.Scheme.meaning scheme.now) }
     {
-        let plan = Plan::new(n, f, d, e, agenda)?;
+        let plan = Plan::new(sizes, agenda)?;
         if scheme.longest() < TEXT || !has_room(plan.n, scheme) {
             return Err(Refusal::Scheme);
         }

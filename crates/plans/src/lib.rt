@@ -1,8 +1,9 @@
 // Plans: the sizes and the agenda of a run, tested once and for all.
 #![tactic(auto)]
 
+mod asks;
 mod fits;
 mod make;
 mod plan;
 
-pub use plan::{Appointment, Plan};
+pub use plan::{Appointment, Plan, Sizes};

@@ -1,15 +1,24 @@
 // What is agreed before a run: the sizes and the agenda.
 ghost use Rattle.std.specs.Prelude.{◌≡◌, ◌+◌, ◌≤◌, length};
 
+// The sizes of a run, as they are asked for: n processors, at most f of them faulty; a frame is under way for fewer than
+// d ticks, and a clock is at most e ticks ahead.
+#[derive(Clone, Copy, Debug, PartialEq, Eq)]
+pub struct Sizes {
+    pub n: u32,
+    pub f: u32,
+    pub d: u32,
+    pub e: u32,
+}
+
 // An item of the agenda: who speaks, and the clock reading at which it does.
-#[derive(Clone, Copy)]
+#[derive(Clone, Copy, Debug, PartialEq, Eq)]
 pub struct Appointment {
     pub sender: u32,
     pub reading: u32,
 }
 
-// n processors, at most f of them faulty; a frame is under way for fewer than d ticks, and a clock is at most e ticks ahead.
-// The items are the first `count` of the eight places.
+// Sizes and an agenda that passed their tests. The items are the first `count` of the eight places.
 #[derive(Clone, Copy)]
 pub struct Plan {
     pub n: u8,

@@ -11,8 +11,8 @@ pub(crate) fn appointment(plan: &Plan, item: u32, row: Refusal) -> Result<Appoin
     ensures is { result ≡ appointed (setup_of plan.now) item row }
     ensures within { OnOk result ((1 ≤ item) × (item ≤ 8)) }
 {
-    if item < 1 || item as usize > plan.count {
+    if !plan.has_item(item) {
         return Err(row);
     }
-    Ok(plan.items[item as usize - 1])
+    Ok(plan.agenda()[item as usize - 1])
 }

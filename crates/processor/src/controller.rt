@@ -1,16 +1,33 @@
 // A controller's processor: it passes calls on to its part, with what was agreed.
 ghost use Rattle.std.specs.Prelude.{◌≡◌};
+ghost use Rattle.plans.specs.Setups.{setup_in};
 ghost use Rattle.processor.specs.Opening.{opened};
 ghost use Rattle.processor.specs.Receiving.{received};
 ghost use Rattle.processor.specs.Deciding.{decided};
-ghost use Rattle.processor.specs.Controllers.{controller_of, started, passed, recorded};
+ghost use Rattle.processor.specs.Controllers.{controller_of, seated, started, passed, recorded};
 
 use crate::owed::Owed;
 use crate::part::{Decision, Part};
 use kinds::Kind;
-use plans::{Appointment, Plan};
+use plans::{Appointment, Plan, Sizes};
 use refusals::Refusal;
 use seals::Scheme;
+
+// The plan of a run that processor `own` takes part in, or row 1, 2, 3, 4 or 10.
+fn seated<S: Scheme>(
+    sizes: Sizes,
+    agenda: &[Appointment],
+    own: u32,
+    scheme: &S,
+) -> Result<Plan, Refusal>
+    ensures { setup_in result ≡ seated sizes.n sizes.f sizes.d sizes.e agenda.now own (S.Scheme.meaning scheme.now) }
+{
+    let plan = Plan::prepare(sizes, agenda, scheme)?;
+    if !plan.has_processor(own) {
+        return Err(Refusal::Processor);
+    }
+    Ok(plan)
+}
 
 // A refused making leaves its refusal in the place of the plan.
 #[derive(Drop)]
@@ -23,26 +40,18 @@ pub struct Processor<K> {
 impl<K: Kind> Processor<K> {
     // Processor `own` in a run of n. Where that is refused, every call on it answers the refusal.
     pub fn new<S: Scheme>(
-        n: u32,
-        f: u32,
-        d: u32,
-        e: u32,
+        sizes: Sizes,
         agenda: &[Appointment],
         own: u32,
         scheme: &S,
         kind: K,
     ) -> Processor<K>
-        ensures { controller_of result ≡ started n f d e agenda.now own (S.Scheme.meaning scheme.now) }
+        ensures { controller_of result ≡ started sizes.n sizes.f sizes.d sizes.e agenda.now own (S.Scheme.meaning scheme.now) }
     {
-        match Plan::prepare(n, f, d, e, agenda, scheme) {
-            Ok(plan) if 1 <= own && own <= plan.n as u32 => Processor {
+        match seated(sizes, agenda, own, scheme) {
+            Ok(plan) => Processor {
                 plan: Ok(plan),
                 part: Part::new(own as u8),
-                kind,
-            },
-            Ok(_) => Processor {
-                plan: Err(Refusal::Processor),
-                part: Part::new(0),
                 kind,
             },
             Err(refusal) => Processor {

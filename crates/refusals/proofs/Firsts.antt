@@ -1,5 +1,12 @@
--- The smallest place that fails, and a loop that stops there.
-use Rattle.std.proofs.Common.{◌≡◌, ℕ, zero, suc, ◌+◌, ◌<◌, Bool, true, false, ◌⊎◌, Some, None, Option, refl, ap, ◌∙◌, inl, inr, add-one, arith}
+-- The smallest place that fails, a loop that stops there, and the library's first place in a list.
+use Rattle.std.proofs.Common.{◌≡◌, ℕ, zero, suc, ◌+◌, ◌-◌, ◌<◌, ◌≤◌, Bool, true, false, ◌⊎◌, List, length, Some, None, Option, refl, ap, ◌∙◌, inl, inr, add-one, arith}
+use Rattle.std.specs.Prelude.{slice_index_or}
+use Rattle.std.specs.List.{position, position_or_len}
+use Rattle.std.specs.List.{list_all, range_with_len}
+use Rattle.std.specs.Prelude.{not, is_some, ◌&&◌, ◌∷◌, [], ◌++◌}
+use Rattle.std.proofs.iter.Rest.{range_with_len_last}
+use Rattle.std.proofs.lemmas.List.Folds.{list_all-append}
+use Rattle.std.proofs.lemmas.List.Sums.{fails_before_first, passes_at_first}
 use native.Mathlib.Decide.{ℕ_discrete}
 use Rattle.std.proofs.lemmas.Bool.{cases_order}
 use Rattle.refusals.specs.Places.{first, or_here}
@@ -51,3 +58,34 @@ pub none_from : (P : ℕ → Bool) (m : ℕ) → ((k : ℕ) → k < m → P k �
 unfolding first
 none_from P zero h = refl
 none_from P (suc m) h = rw (none_from P m (λ k l. h k (omega arith))) (rw (h m (omega arith)) refl)
+
+-- the first place in a list is the smallest place below its length
+pub first_position : {X : Type 0} (p : X → Bool) (xs : List X) (d : X) → position p xs ≡ first (λ k. p (slice_index_or xs k d)) (length xs)
+first_position p xs d = by (cases_order (position_or_len p xs) (length xs))
+  where
+    at : position_or_len p xs < length xs → position p xs ≡ first (λ k. p (slice_index_or xs k d)) (length xs)
+    at l = rw (first_stop (λ k. p (slice_index_or xs k d)) (position_or_len p xs) (length xs) l (none_from _ (position_or_len p xs) (λ k h. fails_before_first p xs k d h)) (passes_at_first p xs d l)) (grind arith)
+
+    past : length xs ≤ position_or_len p xs → position p xs ≡ first (λ k. p (slice_index_or xs k d)) (length xs)
+    past l = rw (none_from (λ k. p (slice_index_or xs k d)) (length xs) (λ k h. fails_before_first p xs k d (omega arith))) (grind arith)
+
+    by : (position_or_len p xs ≡ length xs) ⊎ ((position_or_len p xs < length xs) ⊎ (length xs < position_or_len p xs)) → position p xs ≡ first (λ k. p (slice_index_or xs k d)) (length xs)
+    by (inl q) = past (omega arith)
+    by (inr (inl l)) = at l
+    by (inr (inr l)) = past (omega arith)
+
+-- none is found where every place below n says no
+pub all_below : (P : ℕ → Bool) (n : ℕ) → list_all (λ k. not (P k)) (range_with_len 0 n) ≡ not (is_some (first P n))
+unfolding first
+all_below P zero = refl
+all_below P (suc n) =
+    let all : suc n - 0 ≡ suc n = omega arith in
+    let less : suc n - 1 ≡ n = omega arith in
+    let rest : n - 0 ≡ n = omega arith in
+    let last : range_with_len 0 (suc n) ≡ range_with_len 0 n ++ n ∷ [] = rw (all, less, rest) at (range_with_len_last 0 (suc n) (omega arith)) in
+    ap (list_all (λ k. not (P k))) last ∙ (list_all-append (λ k. not (P k)) (range_with_len 0 n) (n ∷ []) ∙ rw (all_below P n) (by (first P n) (P n)))
+  where
+    by : (o : Option ℕ) (b : Bool) → (not (is_some o) && (not b && true)) ≡ not (is_some (or_here o b n))
+    by (Some k) b = refl
+    by None true = refl
+    by None false = refl

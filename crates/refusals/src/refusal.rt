@@ -1,6 +1,6 @@
 // Why a call is refused: one case for each row of the refusal table.
 // A case that tells a place carries it: the number of a link, or of a flight.
-#[derive(Clone, Copy)]
+#[derive(Clone, Copy, Debug, PartialEq, Eq)]
 pub enum Refusal {
     Size,
     Agenda,

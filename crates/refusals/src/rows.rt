@@ -63,7 +63,6 @@ impl Refusal {
     pub fn is_drop(self) -> bool
         ensures { result ≡ is_drop self }
     {
-        let row = self.row();
-        30 <= row && row <= 42
+        (30..=42).contains(&self.row())
     }
 }

@@ -2,7 +2,7 @@
 use Rattle.std.specs.Prelude.{List, [], ◌∷◌, ◌++◌, Some, None, vec_items, Option}
 use Rattle.plans.specs.declared.plan.Appointment.{Appointment}
 use Rattle.lines.specs.Grammar.{LineRead, bench_line, item_line, start_line, set_line, turn_line, advance_line, seal_line, open_line, inject_line, deliver_line, decide_line}
-use Rattle.script.specs.declared.setting.Sizes.{Sizes}
+use Rattle.plans.specs.declared.plan.Sizes.{Sizes}
 use Rattle.script.specs.declared.setting.Setting.{Setting}
 use Rattle.script.specs.declared.setting.Heard.{Heard}
 use Rattle.script.specs.declared.setting.Heard.TheVariants.{Kept, OutOfOrder, Start}

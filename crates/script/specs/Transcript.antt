@@ -14,7 +14,7 @@ use Rattle.lines.specs.declared.line.KindWord.{KindWord}
 use Rattle.lines.specs.declared.line.KindWord.TheVariants.{Setpoint, Step}
 use Rattle.lines.specs.declared.line.SchemeWord.{SchemeWord}
 use Rattle.lines.specs.declared.line.SchemeWord.TheVariants.{Ledger, Deck}
-use Rattle.script.specs.declared.setting.Sizes.{Sizes}
+use Rattle.plans.specs.declared.plan.Sizes.{Sizes}
 use Rattle.script.specs.declared.setting.Heard.{Heard}
 use Rattle.script.specs.declared.setting.Heard.TheVariants.{Kept, OutOfOrder, Start}
 use Rattle.script.specs.declared.answer.Answer.TheVariants.{Done, Refused}

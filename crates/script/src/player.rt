@@ -12,11 +12,11 @@ ghost use Rattle.script.specs.Settings.{unset};
 use crate::answer::Answer;
 use crate::calls::call;
 use crate::printing::{answer_line, item_line};
-use crate::setting::{Heard, Setting, Sizes};
+use crate::setting::{Heard, Setting};
 use bench::Bench;
 use kinds::{Kind, Setpoint, Step};
 use lines::{KindWord, Pieces, SchemeWord};
-use plans::Appointment;
+use plans::{Appointment, Sizes};
 use refusals::Refusal;
 use seals::{Deck, Ledger, Scheme};
 use std::alloc::{AllocError, Global};
@@ -130,14 +130,13 @@ fn start_with<S: Scheme + Drop>(
 ) -> Result<String, AllocError>
     ensures { IfOk result (λ s. Started (values_of kind) (making sizes.n sizes.f sizes.d sizes.e agenda.now (S.Scheme.meaning scheme)) (left lines.entry) (string_bytes s)) }
 {
-    let Sizes { n, f, d, e } = sizes;
     match kind {
         KindWord::Setpoint => begin(
             heap,
-            Bench::new(n, f, d, e, agenda, scheme, Setpoint),
+            Bench::new(sizes, agenda, scheme, Setpoint),
             lines,
         ),
-        KindWord::Step => begin(heap, Bench::new(n, f, d, e, agenda, scheme, Step), lines),
+        KindWord::Step => begin(heap, Bench::new(sizes, agenda, scheme, Step), lines),
     }
 }
 

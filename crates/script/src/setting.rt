@@ -1,15 +1,6 @@
 // What the first lines of a script set.
 use lines::{KindWord, SchemeWord};
-use plans::Appointment;
-
-// The numbers of the line `bench`.
-#[derive(Clone, Copy)]
-pub struct Sizes {
-    pub n: u32,
-    pub f: u32,
-    pub d: u32,
-    pub e: u32,
-}
+use plans::{Appointment, Sizes};
 
 // The sizes, once they are set, and the items so far.
 #[derive(Drop)]

@@ -4,9 +4,9 @@ ghost use Rattle.std.specs.Option.{option_map};
 ghost use Rattle.lines.specs.Views.{viewed};
 ghost use Rattle.script.specs.Settings.{setting_of, unset, heard};
 
-use crate::setting::{Heard, Setting, Sizes};
+use crate::setting::{Heard, Setting};
 use lines::Line;
-use plans::Appointment;
+use plans::{Appointment, Sizes};
 use std::alloc::{AllocError, Global};
 
 impl Setting {
