@@ -15,7 +15,7 @@ use Rattle.processor.specs.Deciding.{closed as closing, concluded, decided}
 use Rattle.processor.specs.Steps.{passes, after_on}
 use Rattle.processor.specs.Parts.{bag_of, record_in, record_of}
 use Rattle.processor.specs.Windows.{delta_of}
-use Rattle.bench.specs.declared.state.Flight as Sent
+use Rattle.bench.specs.declared.flight.Flight as Sent
 use Rattle.bench.specs.Model.{Core, Model}
 use Rattle.bench.specs.Calls.{after, lifted, has_turned, seat, count_true, with_turned, with_offsets, with_time, turns, sets, wants, goal_of, is_correct, is_late, overdue, unless_due, advances}
 use Rattle.bench.specs.Flights.{on_core, with_parts, part_at, reading_at}

@@ -5,7 +5,7 @@ use native.Mathlib.Decide.{ℕ_discrete}
 use Rattle.std.proofs.lemmas.List.{get_or-set_same, get_or-set_other, length-set}
 use Rattle.refusals.specs.declared.refusal.Refusal.{Refusal}
 use Rattle.frames.specs.Bytes.{Fields, decode}
-use Rattle.bench.specs.declared.state.Flight as Sent
+use Rattle.bench.specs.declared.flight.Flight as Sent
 use Rattle.bench.specs.Model.{Core, Model}
 use Rattle.bench.specs.Calls.{no_flight}
 use Rattle.bench.specs.Flights.{on_core, bytes_of, marked, marks, ends_way, receives}

@@ -19,7 +19,7 @@ use Rattle.processor.specs.Broadcasts.{owed_for}
 use Rattle.processor.specs.Naming.{is_in, is_named}
 use Rattle.processor.specs.Chains.{sealed}
 use Rattle.processor.specs.Relaying.{own_text, frame_of, or_owed, sealed as sealing}
-use Rattle.bench.specs.declared.state.Flight as Sent
+use Rattle.bench.specs.declared.flight.Flight as Sent
 use Rattle.bench.specs.Model.{Core, Model}
 use Rattle.bench.specs.Calls.{no_flight}
 use Rattle.bench.specs.Flights.{with_part, on_core, goes_to, goals_for, flight_for, flies, becomes, launches, keeps, bytes_of}

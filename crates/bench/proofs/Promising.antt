@@ -14,7 +14,7 @@ use Rattle.processor.specs.declared.part.Bag as Kept
 use Rattle.processor.specs.declared.part.Bag.TheVariants.{Empty, One, Two, Closed}
 use Rattle.processor.specs.declared.part.Decision.{Decision}
 use Rattle.processor.specs.declared.part.Decision.TheVariants.{Default, Value}
-use Rattle.bench.specs.declared.state.Flight as Sent
+use Rattle.bench.specs.declared.flight.Flight as Sent
 use Rattle.bench.specs.Model.{Model}
 use Rattle.bench.specs.Calls.{no_flight}
 use Rattle.bench.specs.Flights.{receives, bytes_of, ends_way}

@@ -4,7 +4,7 @@ use Rattle.std.specs.List.{AllByRecursion}
 use Rattle.seals.specs.Meanings.{Triple, Meaning, left_of}
 use Rattle.frames.specs.Bytes.{Fields, decoded, decode}
 use Rattle.processor.specs.Chains.{sealed}
-use Rattle.bench.specs.declared.state.Flight as Sent
+use Rattle.bench.specs.declared.flight.Flight as Sent
 use Rattle.bench.specs.Model.{Core, Model}
 use Rattle.bench.specs.Calls.{no_flight, count_true}
 use Rattle.bench.specs.Flights.{bytes_of}

@@ -13,7 +13,7 @@ use Rattle.processor.specs.declared.part.Part.{Part}
 use Rattle.processor.specs.declared.relaying.Unsent.{Unsent}
 use Rattle.processor.specs.Receiving.{received}
 use Rattle.processor.specs.Relaying.{relayed}
-use Rattle.bench.specs.declared.state.Flight.{Flight}
+use Rattle.bench.specs.declared.flight.Flight.{Flight}
 use Rattle.bench.specs.Model.{Core, Model}
 use Rattle.bench.specs.Calls.{count_true, no_flight, wants, goal_of}
 use Rattle.bench.specs.Flights.{marked, part_at, reading_at, bytes_of, flight_for, becomes, launches, keeps, accepts, receives}

@@ -5,7 +5,7 @@ use Rattle.refusals.specs.declared.refusal.Refusal.{Refusal}
 use Rattle.refusals.specs.declared.refusal.Refusal.TheVariants.{Processor, Faulty, Spare, Offset, End, Due}
 use Rattle.plans.specs.Setups.{Setup}
 use Rattle.processor.specs.Controllers.{is_processor}
-use Rattle.bench.specs.declared.state.Flight.{Flight}
+use Rattle.bench.specs.declared.flight.Flight.{Flight}
 use Rattle.bench.specs.Model.{Core, Model}
 
 -- a refusal ends the call and leaves m as it was; otherwise the call goes on

@@ -11,7 +11,7 @@ use Rattle.processor.specs.declared.relaying.Unsent.{Unsent}
 use Rattle.processor.specs.Naming.{is_named}
 use Rattle.processor.specs.Receiving.{received}
 use Rattle.processor.specs.Relaying.{relayed}
-use Rattle.bench.specs.declared.state.Flight.{Flight}
+use Rattle.bench.specs.declared.flight.Flight.{Flight}
 use Rattle.bench.specs.Model.{Core, Model}
 use Rattle.bench.specs.Calls.{no_flight}
 use Rattle.bench.specs.Reports.{no_part}

@@ -5,7 +5,7 @@ use Rattle.plans.specs.Setups.{Setup, setup_in}
 use Rattle.processor.specs.declared.part.Part.{Part}
 use Rattle.seals.specs.Meanings.{Meaning}
 use Rattle.bench.specs.declared.state.Bench.{Bench}
-use Rattle.bench.specs.declared.state.Flight.{Flight}
+use Rattle.bench.specs.declared.flight.Flight.{Flight}
 use Rattle.bench.specs.declared.state.Inner.{Inner}
 
 -- all but the scheme: the setup or the refusal of the making, real time, and for each processor the offset of its clock,
@@ -25,7 +25,7 @@ core_of i = record {
   offsets = i.offsets;
   turned = i.turned;
   parts = i.parts;
-  flights = take i.count i.flights;
+  flights = i.flights;
 }
 
 -- a bench, with its scheme by its meaning

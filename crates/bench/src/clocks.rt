@@ -5,7 +5,8 @@ ghost use Rattle.plans.specs.Setups.{setup_of};
 ghost use Rattle.bench.specs.Model.{core_of, model_of};
 ghost use Rattle.bench.specs.Calls.{lifted, count_true, seat, turns, sets, goal_of, is_correct, is_late, overdue, advances};
 
-use crate::state::{Bench, Flight, Inner};
+use crate::flight::Flight;
+use crate::state::{Bench, Inner};
 use kinds::Kind;
 use plans::Plan;
 use refusals::Refusal;
@@ -14,16 +15,10 @@ use seals::Scheme;
 // Real time ends here.
 const LAST: u64 = 2_000_000;
 
-fn count_turned(turned: &[bool; 8]) -> u8
+fn count_turned(turned: &[bool; 8]) -> usize
     ensures { result ≡ count_true turned.now }
 {
-    let mut count: u8 = 0;
-    for t in turned {
-        if *t {
-            count += 1;
-        }
-    }
-    count
+    turned.iter().filter(|turned| **turned).count()
 }
 
 fn is_correct(turned: &[bool; 8], p: u8) -> bool
@@ -40,12 +35,8 @@ pub(crate) fn goal_of(turned: &[bool; 8], flight: &Flight) -> Option<usize>
     ensures is { result ≡ goal_of turned.now flight.now }
     ensures within { IfSome result (λ q. q < 8) }
 {
-    for q in 0..8 {
-        if flight.goals[q] && !turned[q] {
-            return Some(q);
-        }
-    }
-    None
+    let mut ways = flight.goals.iter().zip(turned);
+    ways.position(|(goal, turned)| *goal && !*turned)
 }
 
 // Whether the flight would be past its time at t.
@@ -67,7 +58,7 @@ impl Inner {
         ensures is { result ≡ seat (setup_of plan.now) (core_of self.now) p }
         ensures within { IfOk result (λ q. q < 8) }
     {
-        if p < 1 || p > plan.n as u32 {
+        if !plan.has_processor(p) {
             return Err(Refusal::Processor);
         }
         let q = p as usize - 1;
@@ -77,18 +68,15 @@ impl Inner {
         Ok(q)
     }
 
-    // The number of the lowest flight that would be past its time at t.
-    fn overdue(&self, plan: &Plan, t: u32) -> Option<u8>
-        requires room { length self.now.flights ≡ 120 }
-        requires few { self.now.count ≤ 120 }
-        ensures { result ≡ option_map (λ i. i + 1) (overdue (setup_of plan.now) (core_of self.now) t) }
+    // The place of the lowest flight that would be past its time at t.
+    fn overdue(&self, plan: &Plan, t: u32) -> Option<usize>
+        ensures is { result ≡ overdue (setup_of plan.now) (core_of self.now) t }
+        ensures within { IfSome result (λ i. i < 120) }
     {
-        for i in 0..self.count {
-            if is_late(plan, &self.turned, t, &self.flights[i]) {
-                return Some(i as u8 + 1);
-            }
-        }
-        None
+        let flights = self.flights.as_slice();
+        flights
+            .iter()
+            .position(|flight| is_late(plan, &self.turned, t, flight))
     }
 }
 
@@ -99,7 +87,7 @@ impl<S: Scheme, K: Kind> Bench<S, K> {
     {
         let plan = self.inner.plan?;
         let q = self.inner.seat(&plan, p)?;
-        if count_turned(&self.inner.turned) >= plan.f {
+        if count_turned(&self.inner.turned) >= usize::from(plan.f) {
             return Err(Refusal::Spare);
         }
         self.inner.turned[q] = true;
@@ -128,8 +116,8 @@ impl<S: Scheme, K: Kind> Bench<S, K> {
             Some(t) if t <= LAST => t as u32,
             _ => return Err(Refusal::End),
         };
-        if let Some(flight) = self.inner.overdue(&plan, t) {
-            return Err(Refusal::Due(flight));
+        if let Some(i) = self.inner.overdue(&plan, t) {
+            return Err(Refusal::Due(i as u8 + 1));
         }
         self.inner.time = t;
         Ok(t)

@@ -1,15 +1,28 @@
-// Broadcasts under way: how one begins, and how it comes to a processor.
-ghost use Rattle.std.specs.Prelude.{◌≡◌, ℕ, ◌+◌, ◌<◌, ◌≤◌, length};
-ghost use Rattle.plans.specs.Setups.{setup_of};
-ghost use Rattle.bench.specs.Model.{core_of, model_of};
-ghost use Rattle.bench.specs.Flights.{reading_at, goes_to, goals_for, flies, launches, receives, marked, marks, ends_way, arrives};
+// The broadcasts under way, in order: flight k at place k - 1.
+ghost use Rattle.std.specs.Prelude.{◌≡◌, ◌+◌, ◌<◌, ◌≤◌, [], ◌∷◌, ◌++◌, length, slice_index_or, slice_set, nat_le};
+ghost use Rattle.bench.specs.Calls.{no_flight};
+ghost use Rattle.bench.specs.Flights.{marked};
 
-use crate::state::{Bench, Flight, Inner};
-use kinds::Kind;
-use plans::Plan;
-use processor::{Owed, Unsent, forgo, relay};
-use refusals::Refusal;
-use seals::Scheme;
+use crate::flight::Flight;
+use std::marker::Model;
+
+// The first `count` of the 120 records: a granted bench has a place for every broadcast, and no heap.
+#[derive(Drop)]
+pub struct Flights {
+    records: [Flight; 120],
+    count: usize,
+}
+
+impl Model for Flights {
+    ghost use Rattle.std.specs.Prelude.{◌≡◌, ◌≤◌, List, length, take};
+    ghost use Rattle.bench.specs.declared.flight.Flight.{Flight};
+
+    ghost Value = { List Flight };
+
+    ghost view = { λ f. take f.count f.records };
+
+    ghost invariant = { λ f. (f.count ≤ 120) × (length f.records ≡ 120) };
+}
 
 // The flight is no longer on its way to place q.
 fn mark(flight: &mut Flight, q: usize)
@@ -19,144 +32,55 @@ fn mark(flight: &mut Flight, q: usize)
     flight.goals[q] = false;
 }
 
-// Whether a delivery with this answer ends the flight's way: not where the scheme refused to seal.
-fn ends_way(res: Result<u32, Refusal>) -> bool
-    ensures { result ≡ ends_way res }
-{
-    match res {
-        Ok(_) => true,
-        Err(refusal) => refusal.is_drop(),
-    }
-}
-
-fn goes_to(plan: &Plan, owed: &Owed, p: u8) -> bool
-    ensures { result ≡ goes_to (setup_of plan.now) owed.now p }
-{
-    p <= plan.n && !owed.names(p)
-}
-
-fn goals_for(plan: &Plan, owed: &Owed) -> [bool; 8]
-    ensures { result ≡ goals_for (setup_of plan.now) owed.now }
-{
-    [
-        goes_to(plan, owed, 1),
-        goes_to(plan, owed, 2),
-        goes_to(plan, owed, 3),
-        goes_to(plan, owed, 4),
-        goes_to(plan, owed, 5),
-        goes_to(plan, owed, 6),
-        goes_to(plan, owed, 7),
-        goes_to(plan, owed, 8),
-    ]
-}
-
-impl Inner {
-    // What the clock of the processor at place q reads.
-    pub(crate) fn reading(&self, q: usize) -> u64
-        requires { q < 8 }
-        ensures { result ≡ reading_at (core_of self.now) q }
+impl Flights {
+    pub fn new() -> Flights
+        ensures { result ≡ [] }
     {
-        self.time as u64 + self.offsets[q] as u64
+        let vacant = Flight {
+            item: 0,
+            author: 0,
+            time: 0,
+            frame: [0; 45],
+            length: 0,
+            goals: [false; 8],
+        };
+        Flights {
+            records: [vacant; 120],
+            count: 0,
+        }
     }
 
-    // Lends the flight at place i to have its way to place q ended.
-    pub(crate) fn land(&mut self, i: usize, q: usize)
-        requires room { length self.old.flights ≡ 120 }
-        requires few { self.old.count ≤ 120 }
-        requires flight { i < self.old.count }
-        requires seat { q < 8 }
-        ensures core { core_of self.new ≡ marks (core_of self.old) i q }
-        ensures room { length self.new.flights ≡ 120 }
-        ensures count { self.new.count ≡ self.old.count }
-        ensures plan { self.new.plan ≡ self.old.plan }
+    pub fn as_slice(&self) -> &[Flight]
+        ensures flights { result.now ≡ self.now }
+        ensures few { length result.now ≤ 120 }
     {
-        mark(&mut self.flights[i], q);
+        &self.records[..self.count]
+    }
+
+    pub fn is_full(&self) -> bool
+        ensures { result ≡ nat_le 120 (length self.now) }
+    {
+        self.count == 120
     }
 
     // One flight more; its number.
-    fn push(&mut self, flight: Flight) -> u32
-        requires room { length self.old.flights ≡ 120 }
-        requires few { self.old.count < 120 }
-        ensures core { core_of self.new ≡ flies (core_of self.old) flight }
-        ensures number { result ≡ length (core_of self.old).flights + 1 }
-        ensures room { length self.new.flights ≡ 120 }
-        ensures count { self.new.count ≡ self.old.count + 1 }
-        ensures plan { self.new.plan ≡ self.old.plan }
+    pub fn push(&mut self, flight: Flight) -> u32
+        requires { length self.old < 120 }
+        ensures flights { self.new ≡ self.old ++ (flight ∷ []) }
+        ensures number { result ≡ length self.old + 1 }
     {
-        let at = self.count;
-        self.flights[at] = flight;
-        self.count = at + 1;
-        at as u32 + 1
-    }
-}
-
-impl<S: Scheme, K: Kind> Bench<S, K> {
-    // Relays what is owed: it becomes a flight, whose number is answered. Where that is refused, it is given up.
-    pub(crate) fn launch(&mut self, plan: &Plan, owed: Owed) -> Result<u32, Refusal>
-        ensures grows { self.old.inner.count ≤ self.new.inner.count }
-        ensures is { (z : ℕ) × ((result, model_of S.Scheme.meaning self.new) ≡ launches (setup_of plan.now) z owed (model_of S.Scheme.meaning self.old)) }
-    {
-        if self.inner.count >= 120 {
-            forgo(owed);
-            return Err(Refusal::Room);
-        }
-        let item = owed.item();
-        let author = owed.own();
-        let goals = goals_for(plan, &owed);
-        let time = self.inner.time;
-        let mut frame = [0; 45];
-        match relay(owed, &mut self.scheme, &mut frame) {
-            Ok(length) => Ok(
-                self.inner.push(Flight {
-                    item,
-                    author,
-                    time,
-                    frame,
-                    length,
-                    goals,
-                }),
-            ),
-            Err(Unsent { refusal, owed }) => {
-                forgo(owed);
-                Err(refusal)
-            }
-        }
-    }
-}
-
-impl<S: Scheme, K: Kind> Bench<S, K> {
-    // The processor at place q receives bytes. Its part is copied out, and written back where the frame is accepted.
-    pub(crate) fn receive(&mut self, plan: &Plan, q: usize, bytes: &[u8]) -> Result<u32, Refusal>
-        requires { q < 8 }
-        ensures grows { self.old.inner.count ≤ self.new.inner.count }
-        ensures is { (z : ℕ) × ((result, model_of S.Scheme.meaning self.new) ≡ receives K.Kind.admitted K.Kind.same (setup_of plan.now) z q bytes.now (model_of S.Scheme.meaning self.old)) }
-    {
-        let reading = self.inner.reading(q);
-        let mut part = self.inner.parts[q];
-        match part.receive(plan, &self.scheme, &self.kind, reading, bytes)? {
-            None => {
-                self.inner.parts[q] = part;
-                Ok(0)
-            }
-            Some(owed) => {
-                let flight = self.launch(plan, owed)?;
-                self.inner.parts[q] = part;
-                Ok(flight)
-            }
-        }
+        self.records[self.count] = flight;
+        self.count += 1;
+        self.count as u32
     }
 
-    // The flight at place i comes to the processor at place q, and its way there ends.
-    pub(crate) fn arrive(&mut self, plan: &Plan, i: usize, q: usize) -> Result<u32, Refusal>
-        requires flight { i < self.old.inner.count }
+    // Ends the way of the flight at place i to place q.
+    pub fn land(&mut self, i: usize, q: usize)
+        requires flight { i < length self.old }
         requires seat { q < 8 }
-        ensures { (z : ℕ) × ((result, model_of S.Scheme.meaning self.new) ≡ arrives K.Kind.admitted K.Kind.same (setup_of plan.now) z i q (model_of S.Scheme.meaning self.old)) }
+        ensures { self.new ≡ slice_set self.old i (marked (slice_index_or self.old i no_flight) q) }
     {
-        let flight = self.inner.flights[i];
-        let result = self.receive(plan, q, &flight.frame[..flight.length.min(45)]);
-        if ends_way(result) {
-            self.inner.land(i, q);
-        }
-        result
+        let flights = &mut self.records[..self.count];
+        mark(&mut flights[i], q);
     }
 }

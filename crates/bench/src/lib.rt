@@ -2,7 +2,9 @@
 #![tactic(auto)]
 
 mod clocks;
+mod flight;
 mod flights;
+mod launches;
 mod make;
 mod report;
 mod seal;

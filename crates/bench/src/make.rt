@@ -1,11 +1,12 @@
 // Making a bench, and taking it apart.
-ghost use Rattle.std.specs.Prelude.{◌≡◌, length};
+ghost use Rattle.std.specs.Prelude.{◌≡◌};
 ghost use Rattle.plans.specs.Setups.{setup_in};
 ghost use Rattle.bench.specs.Model.{core_of, model_of};
 ghost use Rattle.bench.specs.Making.{fresh, made, refusal_in};
 ghost use Rattle.bench.specs.Promise.{Promised};
 
-use crate::state::{Bench, Flight, Inner};
+use crate::flights::Flights;
+use crate::state::{Bench, Inner};
 use kinds::Kind;
 use plans::{Appointment, Plan, Sizes};
 use processor::Part;
@@ -14,18 +15,8 @@ use seals::Scheme;
 
 // Nothing has happened yet.
 fn fresh(plan: Result<Plan, Refusal>) -> Inner
-    ensures core { core_of result ≡ fresh (setup_in plan) }
-    ensures room { length result.flights ≡ 120 }
-    ensures none { result.count ≡ 0 }
+    ensures { core_of result ≡ fresh (setup_in plan) }
 {
-    let vacant = Flight {
-        item: 0,
-        author: 0,
-        time: 0,
-        frame: [0; 45],
-        length: 0,
-        goals: [false; 8],
-    };
     let parts = [
         Part::new(1),
         Part::new(2),
@@ -42,8 +33,7 @@ fn fresh(plan: Result<Plan, Refusal>) -> Inner
         offsets: [0; 8],
         turned: [false; 8],
         parts,
-        flights: [vacant; 120],
-        count: 0,
+        flights: Flights::new(),
     }
 }
 

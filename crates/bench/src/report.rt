@@ -19,17 +19,13 @@ pub struct Report {
 
 impl Inner {
     fn broadcasts(&self, item: u32) -> usize
-        requires room { length self.now.flights ≡ 120 }
-        requires few { self.now.count ≤ 120 }
         ensures { result ≡ broadcasts (core_of self.now) item }
     {
-        let mut sent = 0;
-        for i in 0..self.count {
-            if self.flights[i].item as u32 == item {
-                sent += 1;
-            }
-        }
-        sent
+        let flights = self.flights.as_slice();
+        flights
+            .iter()
+            .filter(|flight| u32::from(flight.item) == item)
+            .count()
     }
 
     fn decisions(&self, item: u32) -> [Option<Decision>; 8]
@@ -54,7 +50,7 @@ impl<S: Scheme, K: Kind> Bench<S, K> {
         ensures { result ≡ reports item (model_of S.Scheme.meaning self.now).core }
     {
         let plan = self.inner.plan?;
-        if item < 1 || item as usize > plan.count {
+        if !plan.has_item(item) {
             return Err(Refusal::Item);
         }
         let broadcasts = self.inner.broadcasts(item);

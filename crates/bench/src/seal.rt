@@ -15,7 +15,7 @@ impl<S: Scheme, K: Kind> Bench<S, K> {
         ensures { (result, model_of S.Scheme.meaning self.new) ≡ seals (given result) p text.now (model_of S.Scheme.meaning self.old) }
     {
         let plan = self.inner.plan?;
-        if p < 1 || p > plan.n as u32 {
+        if !plan.has_processor(p) {
             return Err(Refusal::Processor);
         }
         if !self.inner.turned[p as usize - 1] {

@@ -18,10 +18,10 @@ impl Inner {
         ensures is { result ≡ actor (setup_of plan.now) (core_of self.now) p item }
         ensures within { IfOk result (λ q. q < 8) }
     {
-        if p < 1 || p > plan.n as u32 {
+        if !plan.has_processor(p) {
             return Err(Refusal::Processor);
         }
-        if item < 1 || item as usize > plan.count {
+        if !plan.has_item(item) {
             return Err(Refusal::Item);
         }
         let q = p as usize - 1;
@@ -36,8 +36,7 @@ impl Inner {
         ensures is { result ≡ route (setup_of plan.now) (core_of self.now) from to }
         ensures within { IfOk result (λ q. q < 8) }
     {
-        let n = plan.n as u32;
-        if from < 1 || from > n || to < 1 || to > n {
+        if !plan.has_processor(from) || !plan.has_processor(to) {
             return Err(Refusal::Processor);
         }
         let q = to as usize - 1;
@@ -52,17 +51,13 @@ impl Inner {
 
     // The place of flight k, which is on its way to place q, or row 23.
     fn flight(&self, k: u32, q: usize) -> Result<usize, Refusal>
-        requires room { length self.now.flights ≡ 120 }
-        requires few { self.now.count ≤ 120 }
-        requires seat { q < 8 }
+        requires { q < 8 }
         ensures is { result ≡ flight_at (core_of self.now) k q }
-        ensures within { IfOk result (λ i. i < self.now.count) }
+        ensures within { IfOk result (λ i. i < length self.now.flights) }
     {
+        let flights = self.flights.as_slice();
         let k = k as usize;
-        if k < 1 || k > self.count {
-            return Err(Refusal::Flight);
-        }
-        if !self.flights[k - 1].goals[q] {
+        if k < 1 || k > flights.len() || !flights[k - 1].goals[q] {
             return Err(Refusal::Flight);
         }
         Ok(k - 1)

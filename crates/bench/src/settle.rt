@@ -17,13 +17,11 @@ use seals::Scheme;
 impl Inner {
     // The place of the lowest flight with a goal that has not turned, and the place of its lowest such goal.
     fn next(&self) -> Option<(usize, usize)>
-        requires room { length self.now.flights ≡ 120 }
-        requires few { self.now.count ≤ 120 }
         ensures is { result ≡ next (core_of self.now) }
-        ensures within { IfSome result (λ x. (x.0 < self.now.count) × (x.1 < 8)) }
+        ensures within { IfSome result (λ x. (x.0 < length self.now.flights) × (x.1 < 8)) }
     {
-        for i in 0..self.count {
-            if let Some(q) = goal_of(&self.turned, &self.flights[i]) {
+        for (i, flight) in self.flights.as_slice().iter().enumerate() {
+            if let Some(q) = goal_of(&self.turned, flight) {
                 return Some((i, q));
             }
         }
@@ -35,13 +33,13 @@ impl<S: Scheme, K: Kind> Bench<S, K> {
     // The flight at place i comes to the processor at place q. Its way there ends whatever is answered, so that
     // settling ends; deliver keeps the way open where the scheme refuses to seal.
     fn bring(&mut self, plan: &Plan, i: usize, q: usize)
-        requires flight { i < self.old.inner.count }
+        requires flight { i < length self.old.inner.flights }
         requires seat { q < 8 }
         ensures { (z : ℕ) × (model_of S.Scheme.meaning self.new ≡ comes K.Kind.admitted K.Kind.same (setup_of plan.now) z i q (model_of S.Scheme.meaning self.old)) }
     {
-        let flight = self.inner.flights[i];
+        let flight = self.inner.flights.as_slice()[i];
         let _ = self.receive(plan, q, &flight.frame[..flight.length.min(45)]);
-        self.inner.land(i, q);
+        self.inner.flights.land(i, q);
     }
 
     // Makes every delivery that is left, and those that come of it; their number.

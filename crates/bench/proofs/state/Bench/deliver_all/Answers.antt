@@ -10,10 +10,7 @@ pub loop-i-init : goal.loop-i-init
 loop-i-init g c = (Delivered.none, omega arith)
 
 pub overflow_add-done : goal.overflow_add-done
-overflow_add-done g c =
-    let x = c.args.self.now in
-    let few : length (take x.inner.count x.inner.flights) ≤ 120 = simp length-take (omega (arith, x.few)) in
-    omega (arith, weight_few (take x.inner.count x.inner.flights) few, c.loop-i.invariant.1)
+overflow_add-done g c = omega (arith, weight_few c.args.self.now.inner.flights c.args.self.now.few, c.loop-i.invariant.1)
 
 -- one delivery leaves less
 less : (g : given.Over) (c : goal.After-bring g) → weight (core_of c.bring.new.self.inner).flights + 1 ≤ weight (core_of c.loop-i.self.inner).flights

@@ -1,40 +1,20 @@
-use Rattle.std.proofs.Common.{◌≡◌, ℕ, ◌+◌, ◌<◌, Bool, length, get_or, take, sym, ap, ◌∙◌, arith, length-take, get_or-take}
-use Rattle.std.specs.Option.{option_map}
-use Rattle.refusals.specs.Places.{first}
-use Rattle.refusals.proofs.Firsts.{first_none, first_more, first_stop}
-use Rattle.plans.specs.Setups.{Setup, setup_of}
-use Rattle.bench.specs.declared.state.Inner.{Inner}
+use Rattle.std.proofs.Common.{◌≡◌, ◌∙◌, ◌<◌, ◌≤◌, length, sym, subst, rules}
+use borrow.Author.Tests.{tests}
+use Rattle.std.specs.Prelude.{IfSome}
+use Rattle.std.proofs.lemmas.Iterator.{YieldsList-from_slice}
+use Rattle.std.proofs.lemmas.Iterator.Search.{position_from_yields_List}
+use Rattle.std.specs.List.{position}
+use Rattle.plans.specs.Setups.{setup_of}
+use Rattle.refusals.proofs.Firsts.{first_position, first_within}
 use Rattle.bench.specs.Model.{core_of}
 use Rattle.bench.specs.Calls.{is_late, no_flight}
 use Rattle.bench.proofs.state.Inner.overdue.Goals as goal
 
--- what the loop tests at i, over the flights of the core
-abbrev late : Setup → Inner → ℕ → ℕ → Bool
-late s x t i = is_late s x.turned t (get_or (core_of x).flights i no_flight)
-
--- which is what the code reads there
-late_is : (s : Setup) (x : Inner) (t i : ℕ) → i < x.count → late s x t i ≡ is_late s x.turned t (get_or x.flights i no_flight)
-late_is s x t i h = ap (is_late s x.turned t) (get_or-take x.count x.flights i no_flight h)
-
-pub loop-i-init : goal.loop-i-init
-loop-i-init c = first_none _
-
-pub returns-then-is_late : goal.returns-then-is_late
-returns-then-is_late c =
-    let x = c.args.self.now in
-    let s = setup_of c.args.plan.now in
-    let i = c.loop-i.i in
-    let lt : i < length (take x.count x.flights) = simp length-take (omega (arith, c.requires.room)) in
-    ap (option_map (λ k. k + 1)) (sym (first_stop (late s x c.args.t) i _ lt c.loop-i.invariant (late_is s x c.args.t i (omega arith) ∙ sym c.if-is_late.ensures)))
-
-pub loop-i-preserved : goal.loop-i-preserved
-loop-i-preserved c =
-    let x = c.args.self.now in
-    let s = setup_of c.args.plan.now in
-    first_more (late s x c.args.t) c.loop-i.i c.loop-i.invariant (late_is s x c.args.t c.loop-i.i (omega arith) ∙ sym c.if-is_late.ensures)
-
 pub returns : goal.returns
 returns c =
-    let x = c.args.self.now in
-    let e : length (take x.count x.flights) ≡ c.loop-i.i = simp length-take (omega (arith, c.requires.room)) in
-    ap (option_map (λ k. k + 1)) (sym (ap (first (late (setup_of c.args.plan.now) x c.args.t)) e ∙ c.loop-i.invariant))
+    let flights = c.args.self.now.flights in
+    let late = is_late (setup_of c.args.plan.now) c.args.self.now.turned c.args.t in
+    let chain : c.position.result ≡ position late flights = position_from_yields_List late _ _ _ c.position.ensures.ran (YieldsList-from_slice flights (cc)) (λ x b q k. search (rules, tests)) in
+    let is = chain ∙ first_position late flights no_flight in
+    let few : length flights ≤ 120 = rw c.as_slice-flights.ensures.flights at c.as_slice-flights.ensures.few in
+    record { is = is; within = subst (λ o. IfSome o (λ i. i < 120)) (sym is) (first_within _ _ 120 few) }
