@@ -1,3 +1,6 @@
+mod Changing
+mod Mapping
+mod Wanting
 pub mod Decidings
 pub mod Landings
 pub mod Lists

@@ -1,3 +1,4 @@
+pub mod Seating
 pub mod Model
 pub mod Calls
 pub mod Seals

@@ -6,16 +6,25 @@ use Rattle.plans.specs.declared.plan.Appointment.{Appointment}
 use Rattle.plans.specs.Setups.{Setup}
 use Rattle.plans.specs.Schemes.{prepared}
 use Rattle.processor.specs.Parts.{fresh_part}
+use Rattle.bench.specs.Seating.{Seating}
 use Rattle.bench.specs.Model.{Core, Model}
 
--- time 0, every clock without an offset, nobody turned, nothing accepted, nothing sent
+-- every clock without an offset, nobody turned, nothing accepted
+abbrev pub fresh_seating : Seating
+fresh_seating = record {
+  offsets = replicate 8 0;
+  turned = replicate 8 false;
+  parts = fresh_part 1 ∷ fresh_part 2 ∷ fresh_part 3 ∷ fresh_part 4 ∷ fresh_part 5 ∷ fresh_part 6 ∷ fresh_part 7 ∷ fresh_part 8 ∷ [];
+}
+
+-- time 0, fresh seats, nothing sent
 abbrev pub fresh : Result Setup Refusal → Core
 fresh plan = record {
   plan = plan;
   time = 0;
-  offsets = replicate 8 0;
-  turned = replicate 8 false;
-  parts = fresh_part 1 ∷ fresh_part 2 ∷ fresh_part 3 ∷ fresh_part 4 ∷ fresh_part 5 ∷ fresh_part 6 ∷ fresh_part 7 ∷ fresh_part 8 ∷ [];
+  offsets = fresh_seating.offsets;
+  turned = fresh_seating.turned;
+  parts = fresh_seating.parts;
   flights = [];
 }
 

@@ -22,9 +22,9 @@ abbrev pub core_of : Inner → Core
 core_of i = record {
   plan = setup_in i.plan;
   time = i.time;
-  offsets = i.offsets;
-  turned = i.turned;
-  parts = i.parts;
+  offsets = i.seats.offsets;
+  turned = i.seats.turned;
+  parts = i.seats.parts;
   flights = i.flights;
 }
 

@@ -17,13 +17,20 @@ broadcasts c item = count_by (λ fl. nat_eq fl.item item) c.flights
 abbrev pub no_part : Part
 no_part = record { own = 0; bags = [] }
 
--- the decision recorded for the item by the processor at place q
-abbrev pub recorded : Core → ℕ → ℕ → Option Decision
-recorded c item q = record_of (slice_index_or c.parts q no_part) item
+-- the decision recorded for the item by the part at place q
+abbrev pub recorded_in : List Part → ℕ → ℕ → Option Decision
+recorded_in parts item q = record_of (slice_index_or parts q no_part) item
 
--- the records of the eight places, of which the first n are taken
+abbrev pub recorded : Core → ℕ → ℕ → Option Decision
+recorded c item q = recorded_in c.parts item q
+
+-- the records of the eight places
+abbrev pub decisions_in : List Part → ℕ → List (Option Decision)
+decisions_in parts item = recorded_in parts item 0 ∷ recorded_in parts item 1 ∷ recorded_in parts item 2 ∷ recorded_in parts item 3 ∷ recorded_in parts item 4 ∷ recorded_in parts item 5 ∷ recorded_in parts item 6 ∷ recorded_in parts item 7 ∷ []
+
+-- of which the first n are taken
 abbrev pub decisions : Core → ℕ → List (Option Decision)
-decisions c item = recorded c item 0 ∷ recorded c item 1 ∷ recorded c item 2 ∷ recorded c item 3 ∷ recorded c item 4 ∷ recorded c item 5 ∷ recorded c item 6 ∷ recorded c item 7 ∷ []
+decisions c item = decisions_in c.parts item
 
 abbrev pub report_of : Setup → Core → ℕ → Report
 report_of s c item = record { n = s.n; broadcasts = broadcasts c item; decisions = decisions c item }

@@ -4,6 +4,7 @@ ghost use Rattle.bench.specs.Calls.{no_flight};
 ghost use Rattle.bench.specs.Flights.{marked};
 
 use crate::flight::Flight;
+use crate::place::Place;
 use std::marker::Model;
 
 // The first `count` of the 120 records: a granted bench has a place for every broadcast, and no heap.
@@ -25,11 +26,10 @@ impl Model for Flights {
 }
 
 // The flight is no longer on its way to place q.
-fn mark(flight: &mut Flight, q: usize)
-    requires { q < 8 }
+fn mark(flight: &mut Flight, q: Place)
     ensures { flight.new ≡ marked flight.old q }
 {
-    flight.goals[q] = false;
+    flight.goals[q.index()] = false;
 }
 
 impl Flights {
@@ -75,9 +75,8 @@ impl Flights {
     }
 
     // Ends the way of the flight at place i to place q.
-    pub fn land(&mut self, i: usize, q: usize)
-        requires flight { i < length self.old }
-        requires seat { q < 8 }
+    pub fn land(&mut self, i: usize, q: Place)
+        requires { i < length self.old }
         ensures { self.new ≡ slice_set self.old i (marked (slice_index_or self.old i no_flight) q) }
     {
         let flights = &mut self.records[..self.count];

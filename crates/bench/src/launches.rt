@@ -5,6 +5,7 @@ ghost use Rattle.bench.specs.Model.{core_of, model_of};
 ghost use Rattle.bench.specs.Flights.{reading_at, goes_to, goals_for, flies, launches, receives, marked, marks, ends_way, arrives};
 
 use crate::flight::Flight;
+use crate::place::Place;
 use crate::state::{Bench, Inner};
 use kinds::Kind;
 use plans::Plan;
@@ -31,25 +32,15 @@ fn goes_to(plan: &Plan, owed: &Owed, p: u8) -> bool
 fn goals_for(plan: &Plan, owed: &Owed) -> [bool; 8]
     ensures { result ≡ goals_for (setup_of plan.now) owed.now }
 {
-    [
-        goes_to(plan, owed, 1),
-        goes_to(plan, owed, 2),
-        goes_to(plan, owed, 3),
-        goes_to(plan, owed, 4),
-        goes_to(plan, owed, 5),
-        goes_to(plan, owed, 6),
-        goes_to(plan, owed, 7),
-        goes_to(plan, owed, 8),
-    ]
+    [1, 2, 3, 4, 5, 6, 7, 8].map(|p| goes_to(plan, owed, p))
 }
 
 impl Inner {
     // What the clock of the processor at place q reads.
-    pub(crate) fn reading(&self, q: usize) -> u64
-        requires { q < 8 }
+    pub(crate) fn reading(&self, q: Place) -> u64
         ensures { result ≡ reading_at (core_of self.now) q }
     {
-        self.time as u64 + self.offsets[q] as u64
+        u64::from(self.time) + u64::from(self.seats.offset(q))
     }
 }
 
@@ -89,30 +80,28 @@ impl<S: Scheme, K: Kind> Bench<S, K> {
 
 impl<S: Scheme, K: Kind> Bench<S, K> {
     // The processor at place q receives bytes. Its part is copied out, and written back where the frame is accepted.
-    pub(crate) fn receive(&mut self, plan: &Plan, q: usize, bytes: &[u8]) -> Result<u32, Refusal>
-        requires { q < 8 }
+    pub(crate) fn receive(&mut self, plan: &Plan, q: Place, bytes: &[u8]) -> Result<u32, Refusal>
         ensures grows { length self.old.inner.flights ≤ length self.new.inner.flights }
         ensures is { (z : ℕ) × ((result, model_of S.Scheme.meaning self.new) ≡ receives K.Kind.admitted K.Kind.same (setup_of plan.now) z q bytes.now (model_of S.Scheme.meaning self.old)) }
     {
         let reading = self.inner.reading(q);
-        let mut part = self.inner.parts[q];
+        let mut part = self.inner.seats.part(q);
         match part.receive(plan, &self.scheme, &self.kind, reading, bytes)? {
             None => {
-                self.inner.parts[q] = part;
+                self.inner.seats.set_part(q, part);
                 Ok(0)
             }
             Some(owed) => {
                 let flight = self.launch(plan, owed)?;
-                self.inner.parts[q] = part;
+                self.inner.seats.set_part(q, part);
                 Ok(flight)
             }
         }
     }
 
     // The flight at place i comes to the processor at place q, and its way there ends.
-    pub(crate) fn arrive(&mut self, plan: &Plan, i: usize, q: usize) -> Result<u32, Refusal>
-        requires flight { i < length self.old.inner.flights }
-        requires seat { q < 8 }
+    pub(crate) fn arrive(&mut self, plan: &Plan, i: usize, q: Place) -> Result<u32, Refusal>
+        requires { i < length self.old.inner.flights }
         ensures { (z : ℕ) × ((result, model_of S.Scheme.meaning self.new) ≡ arrives K.Kind.admitted K.Kind.same (setup_of plan.now) z i q (model_of S.Scheme.meaning self.old)) }
     {
         let flight = self.inner.flights.as_slice()[i];

@@ -6,10 +6,10 @@ ghost use Rattle.bench.specs.Making.{fresh, made, refusal_in};
 ghost use Rattle.bench.specs.Promise.{Promised};
 
 use crate::flights::Flights;
+use crate::seats::Seats;
 use crate::state::{Bench, Inner};
 use kinds::Kind;
 use plans::{Appointment, Plan, Sizes};
-use processor::Part;
 use refusals::Refusal;
 use seals::Scheme;
 
@@ -17,22 +17,10 @@ use seals::Scheme;
 fn fresh(plan: Result<Plan, Refusal>) -> Inner
     ensures { core_of result ≡ fresh (setup_in plan) }
 {
-    let parts = [
-        Part::new(1),
-        Part::new(2),
-        Part::new(3),
-        Part::new(4),
-        Part::new(5),
-        Part::new(6),
-        Part::new(7),
-        Part::new(8),
-    ];
     Inner {
         plan,
         time: 0,
-        offsets: [0; 8],
-        turned: [false; 8],
-        parts,
+        seats: Seats::new(),
         flights: Flights::new(),
     }
 }
@@ -55,10 +43,7 @@ impl<S: Scheme, K: Kind> Bench<S, K> {
     pub fn refusal(&self) -> Option<Refusal>
         ensures { result ≡ refusal_in (model_of S.Scheme.meaning self.now).core.plan }
     {
-        match self.inner.plan {
-            Ok(_) => None,
-            Err(refusal) => Some(refusal),
-        }
+        self.inner.plan.err()
     }
 
     // Takes the bench apart: the scheme, with every seal.

@@ -1,7 +1,7 @@
 // What became of an item.
 ghost use Rattle.std.specs.Prelude.{◌≡◌, ◌≤◌, length};
 ghost use Rattle.bench.specs.Model.{core_of, model_of};
-ghost use Rattle.bench.specs.Reports.{broadcasts, decisions, reports};
+ghost use Rattle.bench.specs.Reports.{broadcasts, reports};
 
 use crate::state::{Bench, Inner};
 use kinds::Kind;
@@ -27,21 +27,6 @@ impl Inner {
             .filter(|flight| u32::from(flight.item) == item)
             .count()
     }
-
-    fn decisions(&self, item: u32) -> [Option<Decision>; 8]
-        ensures { result ≡ decisions (core_of self.now) item }
-    {
-        [
-            self.parts[0].decision(item),
-            self.parts[1].decision(item),
-            self.parts[2].decision(item),
-            self.parts[3].decision(item),
-            self.parts[4].decision(item),
-            self.parts[5].decision(item),
-            self.parts[6].decision(item),
-            self.parts[7].decision(item),
-        ]
-    }
 }
 
 impl<S: Scheme, K: Kind> Bench<S, K> {
@@ -54,7 +39,7 @@ impl<S: Scheme, K: Kind> Bench<S, K> {
             return Err(Refusal::Item);
         }
         let broadcasts = self.inner.broadcasts(item);
-        let decisions = self.inner.decisions(item);
+        let decisions = self.inner.seats.decisions(item);
         Ok(Report {
             n: plan.n,
             broadcasts,

@@ -4,6 +4,7 @@ ghost use Rattle.seals.specs.Meanings.{given};
 ghost use Rattle.bench.specs.Model.{model_of};
 ghost use Rattle.bench.specs.Seals.{seals};
 
+use crate::place::Place;
 use crate::state::Bench;
 use kinds::Kind;
 use refusals::Refusal;
@@ -18,10 +19,9 @@ impl<S: Scheme, K: Kind> Bench<S, K> {
         if !plan.has_processor(p) {
             return Err(Refusal::Processor);
         }
-        if !self.inner.turned[p as usize - 1] {
+        if !self.inner.seats.has_turned(Place::new(p as usize - 1)) {
             return Err(Refusal::Sound);
         }
-        let seal = self.scheme.sign(p as u8, text)?;
-        Ok(seal)
+        self.scheme.sign(p as u8, text)
     }
 }

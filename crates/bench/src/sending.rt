@@ -5,6 +5,7 @@ ghost use Rattle.bench.specs.Model.{core_of, model_of};
 ghost use Rattle.bench.specs.Calls.{lifted};
 ghost use Rattle.bench.specs.Sending.{actor, opens, route, injects, flight_at, delivers, decides};
 
+use crate::place::Place;
 use crate::state::{Bench, Inner};
 use kinds::Kind;
 use plans::Plan;
@@ -14,9 +15,8 @@ use seals::Scheme;
 
 impl Inner {
     // The place of p, which is asked about an item, or row 10, 11 or 12.
-    fn actor(&self, plan: &Plan, p: u32, item: u32) -> Result<usize, Refusal>
-        ensures is { result ≡ actor (setup_of plan.now) (core_of self.now) p item }
-        ensures within { IfOk result (λ q. q < 8) }
+    fn actor(&self, plan: &Plan, p: u32, item: u32) -> Result<Place, Refusal>
+        ensures { result ≡ actor (setup_of plan.now) (core_of self.now) p item }
     {
         if !plan.has_processor(p) {
             return Err(Refusal::Processor);
@@ -24,40 +24,38 @@ impl Inner {
         if !plan.has_item(item) {
             return Err(Refusal::Item);
         }
-        let q = p as usize - 1;
-        if self.turned[q] {
+        let q = Place::new(p as usize - 1);
+        if self.seats.has_turned(q) {
             return Err(Refusal::Faulty);
         }
         Ok(q)
     }
 
     // The place of the receiver of injected bytes, or row 10, 12 or 13.
-    fn route(&self, plan: &Plan, from: u32, to: u32) -> Result<usize, Refusal>
-        ensures is { result ≡ route (setup_of plan.now) (core_of self.now) from to }
-        ensures within { IfOk result (λ q. q < 8) }
+    fn route(&self, plan: &Plan, from: u32, to: u32) -> Result<Place, Refusal>
+        ensures { result ≡ route (setup_of plan.now) (core_of self.now) from to }
     {
         if !plan.has_processor(from) || !plan.has_processor(to) {
             return Err(Refusal::Processor);
         }
-        let q = to as usize - 1;
-        if self.turned[q] {
+        let q = Place::new(to as usize - 1);
+        if self.seats.has_turned(q) {
             return Err(Refusal::Faulty);
         }
-        if !self.turned[from as usize - 1] {
+        if !self.seats.has_turned(Place::new(from as usize - 1)) {
             return Err(Refusal::Sound);
         }
         Ok(q)
     }
 
     // The place of flight k, which is on its way to place q, or row 23.
-    fn flight(&self, k: u32, q: usize) -> Result<usize, Refusal>
-        requires { q < 8 }
+    fn flight(&self, k: u32, q: Place) -> Result<usize, Refusal>
         ensures is { result ≡ flight_at (core_of self.now) k q }
         ensures within { IfOk result (λ i. i < length self.now.flights) }
     {
         let flights = self.flights.as_slice();
         let k = k as usize;
-        if k < 1 || k > flights.len() || !flights[k - 1].goals[q] {
+        if k < 1 || k > flights.len() || !flights[k - 1].goals[q.index()] {
             return Err(Refusal::Flight);
         }
         Ok(k - 1)
@@ -72,10 +70,10 @@ impl<S: Scheme, K: Kind> Bench<S, K> {
         let plan = self.inner.plan?;
         let q = self.inner.actor(&plan, p, item)?;
         let reading = self.inner.reading(q);
-        let mut part = self.inner.parts[q];
+        let mut part = self.inner.seats.part(q);
         let owed = part.open(&plan, &self.kind, reading, item, value)?;
         let flight = self.launch(&plan, owed)?;
-        self.inner.parts[q] = part;
+        self.inner.seats.set_part(q, part);
         Ok(flight)
     }
 
@@ -105,9 +103,9 @@ impl<S: Scheme, K: Kind> Bench<S, K> {
         let plan = self.inner.plan?;
         let q = self.inner.actor(&plan, p, item)?;
         let reading = self.inner.reading(q);
-        let mut part = self.inner.parts[q];
+        let mut part = self.inner.seats.part(q);
         let decision = part.decide(&plan, &self.kind, reading, item)?;
-        self.inner.parts[q] = part;
+        self.inner.seats.set_part(q, part);
         Ok(decision)
     }
 }

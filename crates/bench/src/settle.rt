@@ -6,7 +6,7 @@ ghost use Rattle.bench.specs.Model.{core_of, model_of};
 ghost use Rattle.bench.specs.Flights.{on_core};
 ghost use Rattle.bench.specs.Settling.{next, comes, Delivered, risen, decides_items, decides_all, Settles};
 
-use crate::clocks::goal_of;
+use crate::place::Place;
 use crate::state::{Bench, Inner};
 use kinds::Kind;
 use plans::Plan;
@@ -16,12 +16,12 @@ use seals::Scheme;
 
 impl Inner {
     // The place of the lowest flight with a goal that has not turned, and the place of its lowest such goal.
-    fn next(&self) -> Option<(usize, usize)>
+    fn next(&self) -> Option<(usize, Place)>
         ensures is { result ≡ next (core_of self.now) }
-        ensures within { IfSome result (λ x. (x.0 < length self.now.flights) × (x.1 < 8)) }
+        ensures within { IfSome result (λ x. x.0 < length self.now.flights) }
     {
         for (i, flight) in self.flights.as_slice().iter().enumerate() {
-            if let Some(q) = goal_of(&self.turned, flight) {
+            if let Some(q) = self.seats.goal_of(flight) {
                 return Some((i, q));
             }
         }
@@ -32,9 +32,8 @@ impl Inner {
 impl<S: Scheme, K: Kind> Bench<S, K> {
     // The flight at place i comes to the processor at place q. Its way there ends whatever is answered, so that
     // settling ends; deliver keeps the way open where the scheme refuses to seal.
-    fn bring(&mut self, plan: &Plan, i: usize, q: usize)
-        requires flight { i < length self.old.inner.flights }
-        requires seat { q < 8 }
+    fn bring(&mut self, plan: &Plan, i: usize, q: Place)
+        requires { i < length self.old.inner.flights }
         ensures { (z : ℕ) × (model_of S.Scheme.meaning self.new ≡ comes K.Kind.admitted K.Kind.same (setup_of plan.now) z i q (model_of S.Scheme.meaning self.old)) }
     {
         let flight = self.inner.flights.as_slice()[i];
@@ -48,7 +47,8 @@ impl<S: Scheme, K: Kind> Bench<S, K> {
         ensures over { next (model_of S.Scheme.meaning self.new).core ≡ None }
     {
         let mut done = 0;
-        while let Some((i, q)) = self.inner.next() {
+        while let Some(way) = self.inner.next() {
+            let (i, q) = way;
             self.bring(plan, i, q);
             done += 1;
         }
@@ -61,7 +61,7 @@ impl<S: Scheme, K: Kind> Bench<S, K> {
         ensures { model_of S.Scheme.meaning self.new ≡ on_core (model_of S.Scheme.meaning self.old) (risen (setup_of plan.now) (model_of S.Scheme.meaning self.old).core) }
     {
         let over = end(plan, plan.latest());
-        self.inner.time = (self.inner.time as u64).max(over) as u32;
+        self.inner.time = u64::from(self.inner.time).max(over) as u32;
     }
 
     // Processor p decides so many items. Where p has turned, row 12 refuses each, and nothing changes.

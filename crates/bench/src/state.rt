@@ -5,19 +5,16 @@ ghost use Rattle.plans.specs.Readings.{latest};
 ghost use Rattle.plans.specs.Setups.{setup_of};
 
 use crate::flights::Flights;
+use crate::seats::Seats;
 use plans::Plan;
-use processor::Part;
 use refusals::Refusal;
 
-// Processor p has its clock's offset, its mark of having turned faulty and its part at p - 1.
 // A refused making leaves its refusal in the place of the plan.
 #[derive(Drop)]
 pub struct Inner {
     pub plan: Result<Plan, Refusal>,
     pub time: u32,
-    pub offsets: [u32; 8],
-    pub turned: [bool; 8],
-    pub parts: [Part; 8],
+    pub seats: Seats,
     pub flights: Flights,
 }
 

@@ -5,10 +5,10 @@ use Rattle.bench.specs.Settling.{Delivered}
 use Rattle.bench.proofs.Weights.{weight}
 use Rattle.bench.proofs.state.Bench.deliver_all.Given as goal
 
-abbrev pub invariant-loop-i : goal.invariant-loop-i
-invariant-loop-i g l =
+abbrev pub invariant-loop-way : goal.invariant-loop-way
+invariant-loop-way g l =
     Delivered g.K.Kind.admitted g.K.Kind.same (setup_of l.plan) (model_of g.S.Scheme.meaning l.initial.self) l.done (model_of g.S.Scheme.meaning l.self)
     × (l.done + weight (core_of l.self.inner).flights ≤ weight (core_of l.initial.self.inner).flights)
 
-abbrev pub decreases-loop-i : goal.decreases-loop-i
-decreases-loop-i g l = weight (core_of l.self.inner).flights
+abbrev pub decreases-loop-way : goal.decreases-loop-way
+decreases-loop-way g l = weight (core_of l.self.inner).flights

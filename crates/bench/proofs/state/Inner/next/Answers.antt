@@ -15,14 +15,14 @@ returns-in-Some-clause-is c =
     let x = c.args.self.now in
     let i = c.loop-i.i in
     let lt : i < length x.flights = rw c.as_slice-flight-items.ensures.flights at c.loop-i-test.true in
-    let e = ap (λ fs. goal_of x.turned (get_or fs c.loop-i.i no_flight)) (sym c.as_slice-flight-items.ensures.flights) ∙ sym c.goal_of.ensures.is ∙ c.in-Some.is in
+    let e = ap (λ fs. goal_of x.seats.turned (get_or fs c.loop-i.i no_flight)) (sym c.as_slice-flight-items.ensures.flights) ∙ sym c.goal_of.ensures ∙ c.in-Some.is in
     let f = first_stop (has_goal (core_of x)) i (length x.flights) lt c.loop-i.invariant (ap is_some e) in
     sym (ap (goal_at (core_of x)) f ∙ ap (with_goal i) e)
 
 pub loop-i-preserved : goal.loop-i-preserved
 loop-i-preserved c =
     let x = c.args.self.now in
-    let e = ap (λ fs. goal_of x.turned (get_or fs c.loop-i.i no_flight)) (sym c.as_slice-flight-items.ensures.flights) ∙ sym c.goal_of.ensures.is ∙ c.in_default.is in
+    let e = ap (λ fs. goal_of x.seats.turned (get_or fs c.loop-i.i no_flight)) (sym c.as_slice-flight-items.ensures.flights) ∙ sym c.goal_of.ensures ∙ c.in_default.is in
     first_more (has_goal (core_of x)) c.loop-i.i c.loop-i.invariant (ap is_some e)
 
 pub returns-clause-is : goal.returns-clause-is

@@ -13,7 +13,7 @@ use Rattle.bench.proofs.state.Inner.overdue.Goals as goal
 pub returns : goal.returns
 returns c =
     let flights = c.args.self.now.flights in
-    let late = is_late (setup_of c.args.plan.now) c.args.self.now.turned c.args.t in
+    let late = is_late (setup_of c.args.plan.now) c.args.self.now.seats.turned c.args.t in
     let chain : c.position.result ≡ position late flights = position_from_yields_List late _ _ _ c.position.ensures.ran (YieldsList-from_slice flights (cc)) (λ x b q k. search (rules, tests)) in
     let is = chain ∙ first_position late flights no_flight in
     let few : length flights ≤ 120 = rw c.as_slice-flights.ensures.flights at c.as_slice-flights.ensures.few in

@@ -1,0 +1,33 @@
+-- What an array's `map` gives where each call answers by a function.
+use Rattle.std.proofs.Common.{◌≡◌, ℕ, zero, suc, ◌+◌, ◌<◌, ◌≤◌, ◌⊎◌, inl, inr, List, [], ◌∷◌, length, drop, get_or, sym, refl, ap, ◌∙◌, subst, arith}
+use Rattle.std.specs.Prelude.{map}
+use Rattle.std.specs.Array.{IsMapOf, MapsFrom}
+use Rattle.std.specs.Fn.{Called}
+use Rattle.std.proofs.lemmas.Bool.{cases_order}
+use Rattle.std.proofs.lemmas.List.{same_lists, get_or-map, length-map, drop_all, drop_more}
+use denote.Param.Members.{Mut}
+
+module _ {F A B : Type 0} (g : Mut F (A × Unit {0}) B) (f : F) (h : A → B) (k : (x : A) (y : B) (q : F) → Called g f (x, tt) y q → (q ≡ f) × (y ≡ h x)) where
+  each : (n i : ℕ) (q : F) (xs : List A) (ys : List B) → q ≡ f → MapsFrom g q xs ys i n → (j : ℕ) (d : A) (e : B) → i ≤ j → j < i + n → get_or ys j e ≡ h (get_or xs j d)
+  each zero i q xs ys same m j d e low high = absurd (omega arith)
+  each (suc n) i q xs ys same m j d e low high = by (each n (i + 1) m.0 xs ys) (cases_order i j)
+    where
+      called : Called g f (m.1, tt) m.2 m.0
+      called = subst (λ p. Called g p (m.1, tt) m.2 m.0) same m.5
+      by : (m.0 ≡ f → MapsFrom g m.0 xs ys (i + 1) n → (j : ℕ) (d : A) (e : B) → i + 1 ≤ j → j < i + 1 + n → get_or ys j e ≡ h (get_or xs j d)) → (i ≡ j) ⊎ ((i < j) ⊎ (j < i)) → get_or ys j e ≡ h (get_or xs j d)
+      by rest (inl p) = ap (λ a. get_or ys a e) (sym p) ∙ m.4.1 e ∙ (k _ _ _ called).1 ∙ ap h (sym (m.3.1 d)) ∙ ap (λ a. h (get_or xs a d)) p
+      by rest (inr (inl l)) = rest (k _ _ _ called).0 m.6 j d e (omega arith) (omega arith)
+      by rest (inr (inr l)) = absurd (omega arith)
+
+  pub mapped : (n : ℕ) (xs : List A) (ys : List B) (d : A) → length xs ≡ n → IsMapOf g f xs ys n → ys ≡ map h xs
+  mapped n xs ys d size m = same_lists ys (map h xs) (m.long ∙ sym size ∙ sym (length-map xs h))
+      (λ j e l. each n 0 f xs ys refl m.each j d e (omega arith) (omega (arith, m.long)) ∙ sym (get_or-map h xs j d e (omega (arith, m.long))))
+
+-- a list by its elements, from place i on
+abbrev pub listed : {X : Type 0} → List X → X → ℕ → ℕ → List X
+listed xs d i zero = []
+listed xs d i (suc n) = get_or xs i d ∷ listed xs d (i + 1) n
+
+pub listed_all : {X : Type 0} (xs : List X) (d : X) (n i : ℕ) → length xs ≡ i + n → drop i xs ≡ listed xs d i n
+listed_all xs d zero i e = drop_all i xs (omega arith)
+listed_all xs d (suc n) i e = drop_more xs i d (omega arith) ∙ ap (λ ys. get_or xs i d ∷ ys) (listed_all xs d n (i + 1) (omega arith))
