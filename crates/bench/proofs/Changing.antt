@@ -1,5 +1,5 @@
 -- A seat that changes in one respect.
-use Rattle.std.proofs.Common.{◌≡◌, ℕ, Bool, List, get_or, set, refl, ap, ◌∙◌}
+use Rattle.std.proofs.Common.{◌≡◌, ℕ, Bool, List, get_or, set, refl, ◌∙◌}
 use Rattle.std.specs.Prelude.{map}
 use Rattle.std.proofs.Math.Seq.{map-set, map-set_same}
 use Rattle.processor.specs.declared.part.Part.{Part}

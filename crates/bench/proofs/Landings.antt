@@ -1,5 +1,5 @@
 -- A flight that comes to a processor.
-use Rattle.std.proofs.Common.{◌≡◌, ℕ, ◌<◌, min, Bool, List, get_or, take, Result, sym, ap, ◌∙◌, get_or-take}
+use Rattle.std.proofs.Common.{◌≡◌, ℕ, min, Bool, get_or, take, Result, ap, ◌∙◌}
 use Rattle.refusals.specs.declared.refusal.Refusal.{Refusal}
 use Rattle.plans.specs.Setups.{Setup}
 use Rattle.seals.specs.Meanings.{Meaning}

@@ -14,6 +14,7 @@ module _ {F A B : Type 0} (g : Mut F (A × Unit {0}) B) (f : F) (h : A → B) (k
     where
       called : Called g f (m.1, tt) m.2 m.0
       called = subst (λ p. Called g p (m.1, tt) m.2 m.0) same m.5
+
       by : (m.0 ≡ f → MapsFrom g m.0 xs ys (i + 1) n → (j : ℕ) (d : A) (e : B) → i + 1 ≤ j → j < i + 1 + n → get_or ys j e ≡ h (get_or xs j d)) → (i ≡ j) ⊎ ((i < j) ⊎ (j < i)) → get_or ys j e ≡ h (get_or xs j d)
       by rest (inl p) = ap (λ a. get_or ys a e) (sym p) ∙ m.4.1 e ∙ (k _ _ _ called).1 ∙ ap h (sym (m.3.1 d)) ∙ ap (λ a. h (get_or xs a d)) p
       by rest (inr (inl l)) = rest (k _ _ _ called).0 m.6 j d e (omega arith) (omega arith)

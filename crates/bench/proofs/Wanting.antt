@@ -1,5 +1,5 @@
 -- Counting those that have turned, and a flight's lowest goal that has not, over the seats.
-use Rattle.std.proofs.Common.{◌≡◌, ℕ, ◌+◌, ◌<◌, Bool, true, false, cond, not, ◌&&◌, List, [], ◌∷◌, length, get_or, refl, sym, ap, ◌∙◌, arith}
+use Rattle.std.proofs.Common.{◌≡◌, ℕ, ◌+◌, ◌<◌, Bool, true, false, cond, not, ◌&&◌, List, length, get_or, refl, sym, ap, ◌∙◌, arith}
 use Rattle.std.specs.Prelude.{map, count_by}
 use Rattle.std.specs.List.{position, zip}
 use Rattle.std.proofs.lemmas.List.{get_or-map}
@@ -29,5 +29,5 @@ first_wanted xs fl g t =
     let eight : length both ≡ 8 = simp length-zip (rw (g, t) refl) in
     let test : ℕ → Bool = λ k. (get_or both k (false, no_seat)).0 && not (get_or both k (false, no_seat)).1.turned in
     let same : (k : ℕ) → k < 8 → test k ≡ wants (map (λ x. x.turned) xs) fl k
-        = λ k h. ap (λ x. x.0 && not x.1.turned) (get_or-zip fl.goals xs k (false, no_seat) (omega arith) (omega arith)) ∙ ap (λ b. get_or fl.goals k false && not b) (sym (get_or-map (λ x. x.turned) xs k no_seat false (omega arith))) in
+    = λ k h. ap (λ x. x.0 && not x.1.turned) (get_or-zip fl.goals xs k (false, no_seat) (omega arith) (omega arith)) ∙ ap (λ b. get_or fl.goals k false && not b) (sym (get_or-map (λ x. x.turned) xs k no_seat false (omega arith))) in
     first_position (λ x. x.0 && not x.1.turned) both (false, no_seat) ∙ (ap (first test) eight ∙ first_same test (wants (map (λ x. x.turned) xs) fl) 8 same)

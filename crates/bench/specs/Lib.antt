@@ -1,3 +1,4 @@
+pub mod Places
 pub mod Seating
 pub mod Model
 pub mod Calls

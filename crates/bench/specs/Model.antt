@@ -1,5 +1,5 @@
 -- What a bench is, without the room that its arrays keep.
-use Rattle.std.specs.Prelude.{ℕ, Bool, List, take, Result}
+use Rattle.std.specs.Prelude.{ℕ, Bool, List, Result}
 use Rattle.refusals.specs.declared.refusal.Refusal.{Refusal}
 use Rattle.plans.specs.Setups.{Setup, setup_in}
 use Rattle.processor.specs.declared.part.Part.{Part}

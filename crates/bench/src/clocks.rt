@@ -31,10 +31,7 @@ impl Inner {
     pub(crate) fn seat(&self, plan: &Plan, p: u32) -> Result<Place, Refusal>
         ensures { result ≡ seat (setup_of plan.now) (core_of self.now) p }
     {
-        if !plan.has_processor(p) {
-            return Err(Refusal::Processor);
-        }
-        let q = Place::new(p as usize - 1);
+        let q = Place::of(plan, p)?;
         if self.seats.has_turned(q) {
             return Err(Refusal::Faulty);
         }

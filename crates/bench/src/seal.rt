@@ -16,10 +16,7 @@ impl<S: Scheme, K: Kind> Bench<S, K> {
         ensures { (result, model_of S.Scheme.meaning self.new) ≡ seals (given result) p text.now (model_of S.Scheme.meaning self.old) }
     {
         let plan = self.inner.plan?;
-        if !plan.has_processor(p) {
-            return Err(Refusal::Processor);
-        }
-        if !self.inner.seats.has_turned(Place::new(p as usize - 1)) {
+        if !self.inner.seats.has_turned(Place::of(&plan, p)?) {
             return Err(Refusal::Sound);
         }
         self.scheme.sign(p as u8, text)

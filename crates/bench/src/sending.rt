@@ -18,13 +18,10 @@ impl Inner {
     fn actor(&self, plan: &Plan, p: u32, item: u32) -> Result<Place, Refusal>
         ensures { result ≡ actor (setup_of plan.now) (core_of self.now) p item }
     {
-        if !plan.has_processor(p) {
-            return Err(Refusal::Processor);
-        }
+        let q = Place::of(plan, p)?;
         if !plan.has_item(item) {
             return Err(Refusal::Item);
         }
-        let q = Place::new(p as usize - 1);
         if self.seats.has_turned(q) {
             return Err(Refusal::Faulty);
         }
@@ -35,14 +32,12 @@ impl Inner {
     fn route(&self, plan: &Plan, from: u32, to: u32) -> Result<Place, Refusal>
         ensures { result ≡ route (setup_of plan.now) (core_of self.now) from to }
     {
-        if !plan.has_processor(from) || !plan.has_processor(to) {
-            return Err(Refusal::Processor);
-        }
-        let q = Place::new(to as usize - 1);
+        let sender = Place::of(plan, from)?;
+        let q = Place::of(plan, to)?;
         if self.seats.has_turned(q) {
             return Err(Refusal::Faulty);
         }
-        if !self.seats.has_turned(Place::new(from as usize - 1)) {
+        if !self.seats.has_turned(sender) {
             return Err(Refusal::Sound);
         }
         Ok(q)

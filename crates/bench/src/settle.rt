@@ -65,12 +65,11 @@ impl<S: Scheme, K: Kind> Bench<S, K> {
     }
 
     // Processor p decides so many items. Where p has turned, row 12 refuses each, and nothing changes.
-    fn decide_items(&mut self, p: u32, items: usize)
-        requires { items ≤ 8 }
+    fn decide_items(&mut self, p: u32, items: u32)
         ensures { model_of S.Scheme.meaning self.new ≡ on_core (model_of S.Scheme.meaning self.old) (decides_items p items (model_of S.Scheme.meaning self.old).core) }
     {
-        for k in 0..items {
-            let _ = self.decide(p, k as u32 + 1);
+        for item in 1..=items {
+            let _ = self.decide(p, item);
         }
     }
 
@@ -78,8 +77,9 @@ impl<S: Scheme, K: Kind> Bench<S, K> {
     fn decide_all(&mut self, plan: &Plan)
         ensures { model_of S.Scheme.meaning self.new ≡ on_core (model_of S.Scheme.meaning self.old) (decides_all (setup_of plan.now).n (length (setup_of plan.now).agenda) (model_of S.Scheme.meaning self.old).core) }
     {
-        for p in 0..plan.n {
-            self.decide_items(p as u32 + 1, plan.count);
+        let items = plan.agenda().len() as u32;
+        for p in 1..=u32::from(plan.n) {
+            self.decide_items(p, items);
         }
     }
 

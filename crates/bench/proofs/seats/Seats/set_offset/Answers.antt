@@ -1,4 +1,3 @@
-use Rattle.std.proofs.Common.{true}
 use Rattle.bench.proofs.Changing.{offset_set}
 use Rattle.bench.proofs.seats.Seats.set_offset.Goals as goal
 

@@ -1,4 +1,3 @@
-use Rattle.std.proofs.Common.{true}
 use Rattle.bench.proofs.Changing.{part_set}
 use Rattle.bench.proofs.seats.Seats.set_part.Goals as goal
 

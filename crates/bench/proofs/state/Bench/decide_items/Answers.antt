@@ -1,19 +1,29 @@
-use Rattle.std.proofs.Common.{◌+◌, ap, ◌∙◌}
-use Rattle.bench.specs.Model.{Model, model_of}
+use Rattle.std.proofs.Common.{◌≡◌, ◌+◌, ◌-◌, ap, ◌∙◌, arith}
+use Rattle.bench.specs.Model.{model_of}
 use Rattle.bench.specs.Flights.{on_core}
-use Rattle.bench.specs.Sending.{decides}
-use Rattle.bench.proofs.Decidings.{items_none, items_more}
+use Rattle.bench.specs.Settling.{decides_items}
+use Rattle.bench.proofs.Decidings.{items_none, items_next}
 use Rattle.bench.proofs.state.Bench.decide_items.Goals as goal
 
-pub loop-k-init : goal.loop-k-init
-loop-k-init g c =
+pub loop-item-init : goal.loop-item-init
+loop-item-init g c =
     let m = model_of g.S.Scheme.meaning c.args.self.now in
-    ap (on_core m) (items_none c.args.p m.core)
+    (ap (on_core m) (items_none c.args.p m.core), omega arith)
 
-pub loop-k-preserved : goal.loop-k-preserved
-loop-k-preserved g c =
+pub loop-item-preserved : goal.loop-item-preserved
+loop-item-preserved g c =
     let m = model_of g.S.Scheme.meaning c.args.self.now in
-    let p = c.args.p in
-    let k = c.loop-k.k in
-    let decide : Model → Model = λ x. on_core x (decides p (k + 1) x.core).1 in
-    ap (λ x. x.1) c.decide.ensures ∙ ap decide c.loop-k.invariant ∙ ap (on_core m) (items_more p k m.core)
+    let here : c.loop-item.item + 1 - 1 ≡ c.loop-item.item = omega arith in
+    (rw here (items_next c.args.p c.loop-item.item m _ _ _ c.loop-item.auto.item c.decide.ensures c.loop-item.invariant.0), omega arith)
+
+pub returns : goal.returns
+returns g c =
+    let m = model_of g.S.Scheme.meaning c.args.self.now in
+    let all : c.loop-item.item - 1 ≡ c.args.items = omega (arith, c.loop-item.invariant.1, c.loop-item-test.false) in
+    c.loop-item.invariant.0 ∙ ap (λ k. on_core m (decides_items c.args.p k m.core)) all
+
+pub returns-2 : goal.returns-2
+returns-2 g c =
+    let m = model_of g.S.Scheme.meaning c.args.self.now in
+    let all : c.loop-item.item ≡ c.args.items = omega (arith, c.loop-item-test.true) in
+    items_next c.args.p c.loop-item.item m _ _ _ c.loop-item.auto.item c.decide.ensures c.loop-item.invariant.0 ∙ ap (λ k. on_core m (decides_items c.args.p k m.core)) all

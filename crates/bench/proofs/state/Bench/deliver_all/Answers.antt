@@ -1,4 +1,4 @@
-use Rattle.std.proofs.Common.{◌+◌, ◌≤◌, length, take, sym, subst, arith, length-take}
+use Rattle.std.proofs.Common.{◌+◌, ◌≤◌, sym, subst, arith}
 use Rattle.plans.specs.Setups.{setup_of}
 use Rattle.bench.specs.Model.{Model, model_of, core_of}
 use Rattle.bench.specs.Settling.{Delivered}

@@ -6,7 +6,6 @@ use Rattle.std.proofs.lemmas.Iterator.Search.{position_from_yields_List}
 use Rattle.std.specs.List.{position}
 use Rattle.plans.specs.Setups.{setup_of}
 use Rattle.refusals.proofs.Firsts.{first_position, first_within}
-use Rattle.bench.specs.Model.{core_of}
 use Rattle.bench.specs.Calls.{is_late, no_flight}
 use Rattle.bench.proofs.state.Inner.overdue.Goals as goal
 
