@@ -154,7 +154,7 @@ fn one_to_64() -> [u32; 64]
 // A deck of which each signer is dealt the seals 1 to 64.
 fn deck() -> Deck
     ensures meaning { book_of result.book ≡ fresh (min 64 64) }
-    ensures dealt { (q k : ℕ) → q < 8 → k < 64 → slice_index (slice_index_or result.hands q []) k ≡ k + 1 }
+    ensures dealt { (q k : ℕ) → q < 8 → k < 64 → slice_index (slice_index_or result.numbering.hands q []) k ≡ k + 1 }
 {
     let seals = one_to_64();
     Deck::new(64, &[seals; 8])

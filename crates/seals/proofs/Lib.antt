@@ -1,3 +1,3 @@
-mod Steps
+mod Searches
 mod Adds
 pub mod Signing

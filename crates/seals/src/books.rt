@@ -1,11 +1,10 @@
 // What a book is asked.
-ghost use Rattle.std.specs.Prelude.{◌≡◌, ◌-◌, ◌<◌, ◌≤◌, true, length, None, slice_index};
-ghost use Rattle.seals.specs.Meanings.{known, seal_of, holds, left_of, count_for, answered, signed, lowered, issued, given};
+ghost use Rattle.std.specs.Prelude.{◌≡◌, ◌-◌, ◌<◌, ◌≤◌, true, length, None, slice_index, take};
+ghost use Rattle.seals.specs.Meanings.{known, seal_of, holds, left_of, count_for, lowered, issued};
 ghost use Rattle.seals.specs.Books.{book_of, fresh};
 
 use crate::book::Book;
 use crate::entry::Entry;
-use refusals::Refusal;
 
 // One less left for the signer.
 fn lower(left: &mut [u8; 8], signer: u8)
@@ -35,28 +34,30 @@ impl Book {
         }
     }
 
+    // The issued entries, in order of issue.
+    fn issued(&self) -> &[Entry]
+        ensures { result.now ≡ take self.now.used self.now.entries }
+    {
+        &self.entries[..self.used]
+    }
+
     // The seal of this signer and text.
     pub fn find(&self, signer: u8, text: &[u8]) -> Option<u32>
         ensures { result ≡ seal_of (book_of self.now).triples signer text.now }
     {
-        for e in &self.entries[0..self.used] {
-            if e.is_of(signer, text) {
-                return Some(e.seal);
-            }
-        }
-        None
+        self.issued()
+            .iter()
+            .find(|e| e.is_of(signer, text))
+            .map(|e| e.seal)
     }
 
     // Whether this seal was issued to the signer for the text.
     pub fn holds(&self, signer: u8, text: &[u8], seal: u32) -> bool
         ensures { result ≡ holds (book_of self.now).triples signer text.now seal }
     {
-        for e in &self.entries[0..self.used] {
-            if e.is_of(signer, text) && e.seal == seal {
-                return true;
-            }
-        }
-        false
+        self.issued()
+            .iter()
+            .any(|e| e.is_of(signer, text) && e.seal == seal)
     }
 
     // How many seals were issued.
@@ -71,13 +72,7 @@ impl Book {
     pub fn count(&self, signer: u8) -> usize
         ensures { result ≡ count_for signer (book_of self.now).triples }
     {
-        let mut n = 0;
-        for e in &self.entries[0..self.used] {
-            if e.signer == signer {
-                n += 1;
-            }
-        }
-        n
+        self.issued().iter().filter(|e| e.signer == signer).count()
     }
 
     // How many seals the signer may still ask for.
@@ -91,7 +86,7 @@ impl Book {
     }
 
     // One entry more.
-    fn add(&mut self, signer: u8, text: &[u8], seal: u32)
+    pub fn add(&mut self, signer: u8, text: &[u8], seal: u32)
         requires signer { known signer ≡ true }
         requires text { length text.now ≤ 24 }
         requires fresh { seal_of (book_of self.old).triples signer text.now ≡ None }
@@ -102,27 +97,5 @@ impl Book {
         self.entries[used] = Entry::new(signer, text, seal);
         self.used = used + 1;
         lower(&mut self.left, signer);
-    }
-
-    // Signs, with `new` for the number of a new seal.
-    pub fn sign(&mut self, signer: u8, text: &[u8], new: u32) -> Result<u32, Refusal>
-        ensures answer { result ≡ answered (book_of self.old) signer text.now (given result) }
-        ensures after { book_of self.new ≡ signed (book_of self.old) signer text.now (given result) }
-        ensures number { result ≡ answered (book_of self.old) signer text.now new }
-    {
-        if signer < 1 || signer > 8 {
-            return Err(Refusal::Signer);
-        }
-        if text.len() > 24 {
-            return Err(Refusal::Text);
-        }
-        if let Some(seal) = self.find(signer, text) {
-            return Ok(seal);
-        }
-        if self.left(signer) == 0 {
-            return Err(Refusal::Room);
-        }
-        self.add(signer, text, new);
-        Ok(new)
     }
 }

@@ -7,6 +7,8 @@ mod deck;
 mod entries;
 mod entry;
 mod ledger;
+mod numbering;
+mod register;
 mod scheme;
 
 pub use deck::Deck;

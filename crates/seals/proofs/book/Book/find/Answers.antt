@@ -1,18 +1,17 @@
--- The loop's turns and its end.
-use Rattle.std.proofs.Common.{true, false, sym, ◌∙◌}
-use Rattle.seals.specs.Meanings.{seal_of}
-use Rattle.seals.proofs.Steps.{seal_more, rest_all}
+use Rattle.std.proofs.Common.{◌≡◌, take, rules, ap, ◌∙◌}
+use Rattle.std.proofs.lemmas.Iterator.{YieldsList-from_slice}
+use Rattle.std.proofs.lemmas.Iterator.Search.{find_from_yields_List}
+use Rattle.std.specs.Option.{option_map}
+use borrow.Author.Tests.{tests}
+use Rattle.seals.specs.Meanings.{is_of}
+use Rattle.seals.specs.Entries.{triple_of}
+use Rattle.seals.specs.declared.entry.Entry.{Entry}
+use Rattle.seals.proofs.Searches.{seal_found}
 use Rattle.seals.proofs.book.Book.find.Goals as goal
 
-pub returns-then-is_of : goal.returns-then-is_of
-returns-then-is_of c =
-    let more = seal_more c.args.self.now c.loop-e.e-index c.e-item.result c.loop-e-test.true c.e-item.is in
-    sym (more c.args.signer c.args.text.now true c.if-is_of.ensures) ∙ c.loop-e.invariant
-
-pub loop-e-preserved : goal.loop-e-preserved
-loop-e-preserved c =
-    let more = seal_more c.args.self.now c.loop-e.e-index c.e-item.result c.loop-e-test.true c.e-item.is in
-    sym (more c.args.signer c.args.text.now false c.if-is_of.ensures) ∙ c.loop-e.invariant
-
 pub returns : goal.returns
-returns c = sym (rest_all (λ l. seal_of l c.args.signer c.args.text.now) c.args.self.now c.loop-e.e-index c.loop-e-test.false) ∙ c.loop-e.invariant
+returns c =
+    let es = take c.args.self.now.used c.args.self.now.entries in
+    let first = find_from_yields_List (λ (e : Entry). is_of c.args.signer c.args.text.now (triple_of e)) _ _ c.find.result c.find.ensures.ran (YieldsList-from_slice es cc) (λ x r q k. search (rules, tests)) in
+    let read : c.map.result ≡ option_map (λ (e : Entry). e.seal) (option_map (λ x. x.now) c.find.result) = search rules in
+    read ∙ ap (option_map (λ (e : Entry). e.seal)) first ∙ seal_found c.args.signer c.args.text.now es
