@@ -55,5 +55,5 @@ room_more b p k some =
     (omega (arith, b.space, get_or-le-sum_by (λ x. x) b.left (p - 1) 0 in'), omega (arith, b.space, sum_by-set (λ x. x) b.left (p - 1) (get_or b.left (p - 1) 0 - 1) 0 in'))
 
 -- the triples after an entry is written past the used ones
-pub grown : (b : Book) (e : Entry) (x : Triple) → b.used < 512 → triple_of e ≡ x → triples_of (b.used + 1) (set b.entries b.used e) ≡ (book_of b).triples ++ x ∷ []
-grown b e x within is = ap (map triple_of) (take_more_set b.entries b.used e (omega (arith, b.places))) ∙ map_push triple_of (take b.used b.entries) e ∙ ap (λ y. (book_of b).triples ++ y ∷ []) is
+pub grown : (b : Book) (e : Entry) (x : Triple) → b.used < length b.entries → triple_of e ≡ x → triples_of (b.used + 1) (set b.entries b.used e) ≡ (book_of b).triples ++ x ∷ []
+grown b e x within is = ap (map triple_of) (take_more_set b.entries b.used e within) ∙ map_push triple_of (take b.used b.entries) e ∙ ap (λ y. (book_of b).triples ++ y ∷ []) is

@@ -5,13 +5,20 @@ ghost use Rattle.seals.specs.Entries.{triples_of};
 
 use crate::entry::Entry;
 
+// The signers, the most seals of each, and room for them all.
+pub const SIGNERS: usize = 8;
+
+pub const EACH: usize = 64;
+
+pub const PLACES: usize = SIGNERS * EACH;
+
 // The first `used` entries are the issued ones, in order of issue; signer p has `left[p - 1]` left.
-#[derive(Clone, Copy)]
+// Arrays with a length: no heap here, and a book is copied.
+#[derive(Clone, Copy, Debug, PartialEq, Eq)]
 pub struct Book {
-    pub entries: [Entry; 512],
+    pub entries: [Entry; PLACES],
     pub used: usize,
-    pub left: [u8; 8],
-    ghost places: { length entries ≡ 512 },
+    pub left: [u8; SIGNERS],
     ghost eight: { length left ≡ 8 },
     ghost space: { used + sum left ≤ 512 },
     ghost once: { single (triples_of used entries) ≡ true },

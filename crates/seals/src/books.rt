@@ -3,11 +3,11 @@ ghost use Rattle.std.specs.Prelude.{◌≡◌, ◌-◌, ◌<◌, ◌≤◌, true
 ghost use Rattle.seals.specs.Meanings.{known, seal_of, holds, left_of, count_for, lowered, issued};
 ghost use Rattle.seals.specs.Books.{book_of, fresh};
 
-use crate::book::Book;
+use crate::book::{Book, PLACES, SIGNERS};
 use crate::entry::Entry;
 
 // One less left for the signer.
-fn lower(left: &mut [u8; 8], signer: u8)
+fn lower(left: &mut [u8; SIGNERS], signer: u8)
     requires signer { known signer ≡ true }
     requires some { 0 < slice_index left.old (signer - 1) }
     ensures { left.new ≡ lowered left.old signer }
@@ -21,16 +21,10 @@ impl Book {
         requires { each ≤ 64 }
         ensures { book_of result ≡ fresh each }
     {
-        let blank = Entry {
-            signer: 0,
-            size: 0,
-            text: [0; 24],
-            seal: 0,
-        };
         Book {
-            entries: [blank; 512],
+            entries: [Entry::new(0, &[], 0); PLACES],
             used: 0,
-            left: [each; 8],
+            left: [each; SIGNERS],
         }
     }
 
@@ -93,9 +87,8 @@ impl Book {
         requires room { 0 < left_of (book_of self.old) signer }
         ensures { book_of self.new ≡ issued (book_of self.old) signer text.now seal }
     {
-        let used = self.used;
-        self.entries[used] = Entry::new(signer, text, seal);
-        self.used = used + 1;
+        self.entries[self.used] = Entry::new(signer, text, seal);
+        self.used += 1;
         lower(&mut self.left, signer);
     }
 }

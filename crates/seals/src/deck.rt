@@ -3,15 +3,15 @@ ghost use Rattle.std.specs.Prelude.{◌≡◌, ◌≤◌, min};
 ghost use Rattle.seals.specs.Meanings.{next_of};
 ghost use Rattle.seals.specs.Books.{book_of, fresh};
 
-use crate::book::Book;
+use crate::book::{Book, EACH, SIGNERS};
 use crate::numbering::Numbering;
 use crate::register::Register;
 
 // Row p - 1 of `hands` is signer p's, and the first `dealt` numbers of it are dealt.
-#[derive(Clone, Copy)]
+#[derive(Clone, Copy, Debug, PartialEq, Eq)]
 pub struct Hands {
     dealt: usize,
-    hands: [[u32; 64]; 8],
+    hands: [[u32; EACH]; SIGNERS],
     ghost few: { dealt ≤ 64 },
 }
 
@@ -19,12 +19,12 @@ pub type Deck = Register<Hands>;
 
 impl Deck {
     // Deals the first `each` numbers of its row to each signer, all 64 if that is more.
-    pub fn new(each: usize, hands: &[[u32; 64]; 8]) -> Deck
+    pub fn new(each: usize, hands: &[[u32; EACH]; SIGNERS]) -> Deck
         ensures meaning { book_of result.book ≡ fresh (min each 64) }
         ensures dealt { result.numbering.dealt ≡ min each 64 }
         ensures hands { result.numbering.hands ≡ hands.now }
     {
-        let dealt = each.min(64);
+        let dealt = each.min(EACH);
         Register {
             book: Book::new(dealt as u8),
             numbering: Hands {

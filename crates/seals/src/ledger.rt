@@ -2,11 +2,11 @@
 ghost use Rattle.std.specs.Prelude.{◌≡◌, ◌+◌, length};
 ghost use Rattle.seals.specs.Books.{book_of, fresh};
 
-use crate::book::Book;
+use crate::book::{Book, EACH};
 use crate::numbering::Numbering;
 use crate::register::Register;
 
-#[derive(Clone, Copy)]
+#[derive(Clone, Copy, Debug, PartialEq, Eq)]
 pub struct InOrder;
 
 pub type Ledger = Register<InOrder>;
@@ -16,7 +16,7 @@ impl Ledger {
         ensures { book_of result.book ≡ fresh 64 }
     {
         Register {
-            book: Book::new(64),
+            book: Book::new(EACH as u8),
             numbering: InOrder,
         }
     }

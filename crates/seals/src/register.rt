@@ -4,12 +4,13 @@ ghost use Rattle.seals.specs.Meanings.{answered, signed, given};
 ghost use Rattle.seals.specs.Books.{book_of};
 ghost use Rattle.seals.specs.Tidies.{book_tidy};
 
-use crate::book::Book;
+use crate::book::{Book, SIGNERS};
+use crate::entry::LONGEST;
 use crate::numbering::Numbering;
 use crate::scheme::Scheme;
 use refusals::Refusal;
 
-#[derive(Clone, Copy)]
+#[derive(Clone, Copy, Debug, PartialEq, Eq)]
 pub struct Register<N> {
     pub(crate) book: Book,
     pub(crate) numbering: N,
@@ -26,10 +27,10 @@ impl<N: Numbering> Scheme for Register<N> {
         ensures number { result ≡ answered (book_of self.old.book) signer text.now (N.number self.old.numbering (book_of self.old.book) signer) }
         ensures numbering { self.new.numbering ≡ self.old.numbering }
     {
-        if signer < 1 || signer > 8 {
+        if !(1..=SIGNERS).contains(&(signer as usize)) {
             return Err(Refusal::Signer);
         }
-        if text.len() > 24 {
+        if text.len() > LONGEST {
             return Err(Refusal::Text);
         }
         if let Some(seal) = self.book.find(signer, text) {
@@ -56,6 +57,6 @@ impl<N: Numbering> Scheme for Register<N> {
     }
 
     fn longest(&self) -> usize {
-        24
+        LONGEST
     }
 }
