@@ -6,15 +6,6 @@ ghost use Rattle.seals.specs.Books.{book_of, fresh};
 use crate::book::{Book, PLACES, SIGNERS};
 use crate::entry::Entry;
 
-// One less left for the signer.
-fn lower(left: &mut [u8; SIGNERS], signer: u8)
-    requires signer { known signer ≡ true }
-    requires some { 0 < slice_index left.old (signer - 1) }
-    ensures { left.new ≡ lowered left.old signer }
-{
-    left[signer as usize - 1] -= 1;
-}
-
 impl Book {
     // A book with nothing in it, where each signer may ask for `each` seals.
     pub fn new(each: u8) -> Book
@@ -89,6 +80,6 @@ impl Book {
     {
         self.entries[self.used] = Entry::new(signer, text, seal);
         self.used += 1;
-        lower(&mut self.left, signer);
+        self.left[signer as usize - 1] -= 1;
     }
 }

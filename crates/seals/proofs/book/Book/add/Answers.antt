@@ -1,5 +1,5 @@
 -- The invariants hold of one entry more.
-use Rattle.std.proofs.Common.{◌≡◌, ◌+◌, ◌≤◌, true, List, ℕ, length, sum, sym, ap, ◌∙◌, subst, arith, length-set}
+use Rattle.std.proofs.Common.{◌≡◌, true, ◌∙◌, sym, subst, arith, length-set}
 use Rattle.seals.specs.Meanings.{single, all_known, triple}
 use Rattle.seals.specs.Books.{book_of}
 use Rattle.seals.proofs.Adds.{single_push, all_known_push, grown, room_more}
@@ -13,8 +13,8 @@ invariant_of-self c =
     let room = room_more b c.args.signer c.requires.signer c.requires.room in
     let more = grown b c.new.result x (omega (arith, room.0)) c.new.ensures in
     record {
-      eight = ap length c.lower.ensures ∙ length-set _ _ _ ∙ b.eight;
-      space = subst (λ (l : List ℕ). b.used + 1 + sum l ≤ 512) (sym c.lower.ensures) room.1;
+      eight = length-set _ _ _ ∙ b.eight;
+      space = room.1;
       once = subst (λ l. single l ≡ true) (sym more) (single_push es x b.once c.requires.fresh);
       signers = subst (λ l. all_known l ≡ true) (sym more) (all_known_push es x b.signers c.requires.signer);
     }
