@@ -1,13 +1,8 @@
 -- Bytes that are written one after the other to the front of a buffer.
-use Rattle.std.proofs.Common.{◌≡◌, ℕ, suc, ◌+◌, ◌<◌, List, [], ◌∷◌, ◌++◌, length, take, drop, set, sym, refl, ap, ◌∙◌, arith, length-append}
+use Rattle.std.proofs.Common.{◌≡◌, ℕ, ◌+◌, ◌<◌, List, [], ◌∷◌, ◌++◌, length, take, drop, set, sym, refl, ap, ◌∙◌, arith, length-append}
 use borrow.Rule.Slice.PartMut.{put_mid}
-use Rattle.std.proofs.lemmas.List.{append_assoc, append-nil, drop_all, take_at, drop_at, drop-drop, drop_more, set_at, length_push}
+use Rattle.std.proofs.lemmas.List.{append_assoc, take_at, drop_at, drop-drop, drop_more, set_at, length_push}
 use Rattle.frames.specs.Bytes.{placed}
-
--- a first element and then all the others
-pub put_rest : (xs ys : List ℕ) (x n : ℕ) → length xs ≡ suc n → put_mid 1 n (set xs 0 x) ys ≡ x ∷ ys
-put_rest [] ys x n h = absurd (omega arith)
-put_rest (_ ∷ xs) ys x n h = ap (λ l. x ∷ (ys ++ l)) (drop_all n xs (omega arith)) ∙ ap (λ l. x ∷ l) (append-nil ys)
 
 -- a buffer that had e, and has xs at its front now
 module _ (xs e buf : List ℕ) (is : buf ≡ placed xs e) where

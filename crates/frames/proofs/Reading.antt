@@ -29,13 +29,10 @@ module _ (bs : List ℕ) (v : ℕ) (rest : List ℕ) (long : 10 ≤ length bs) (
   is_shaped : shaped bs ≡ true
   is_shaped = and_from _ _ (le-leb _ _ some) (and_from _ _ (le-leb _ _ few) (eq-eqb _ _ size))
 
-  pub read_ok : ◌≡◌ {A = Result Fields Refusal} (Ok got) (decode bs)
-  read_ok = ap Ok same_fields ∙ sym (cond-true _ _ _ is_shaped)
-
-  pub read_whole : Whole got
-  read_whole =
-      let s = length_links_of (count_of rest) rest in
-      record { some = omega (arith, count); few = omega (arith, count) }
-
-  pub read_back : ((i : ℕ) → get_or bs i 0 < 256) → encode got ≡ bs
-  read_back bytes = ap encode same_fields ∙ written_read bs long size (All-from_get_or (λ b. b < 256) bs 0 (λ i h. bytes i))
+  pub read_facts : ((i : ℕ) → get_or bs i 0 < 256) → ◌≡◌ {A = Result Fields Refusal} (Ok got) (decode bs) × Whole got × (encode got ≡ bs)
+  read_facts bytes =
+      let links = length_links_of (count_of rest) rest in (
+        ap Ok same_fields ∙ sym (cond-true _ _ _ is_shaped),
+        record { some = omega (arith, count); few = omega (arith, count) },
+        ap encode same_fields ∙ written_read bs long size (All-from_get_or (λ b. b < 256) bs 0 (λ i h. bytes i)),
+      )

@@ -10,5 +10,5 @@ mod writer;
 pub use frame::Frame;
 pub use link::Link;
 pub use reader::read;
-pub use texts::link_text;
+pub use texts::{LONGEST_TEXT, link_text};
 pub use writer::write;

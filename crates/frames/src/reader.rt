@@ -15,11 +15,7 @@ pub fn read(bytes: &[u8]) -> Result<Frame<'_>, Refusal>
     let [item, a, b, c, d, e, f, g, h, s, links @ ..] = bytes else {
         return Err(Refusal::Frame);
     };
-    let count = *s;
-    if count < 1 || count > 8 {
-        return Err(Refusal::Frame);
-    }
-    if links.len() != 5 * count as usize {
+    if !(1..=8).contains(s) || links.len() != 5 * *s as usize {
         return Err(Refusal::Frame);
     }
     let value = u64::from_be_bytes([*a, *b, *c, *d, *e, *f, *g, *h]);

@@ -12,8 +12,7 @@ fn write_link(part: &mut [u8], link: Link)
     ensures small { (link.processor < 256) × (link.seal < 2 ^ 32) }
     ensures bytes { part.new ≡ link_bytes link }
 {
-    part[0] = link.processor;
-    part[1..5].copy_from_slice(&link.seal.to_be_bytes());
+    part.copy_from_slice(&<[u8; 5]>::from(link));
 }
 
 // Writes the first ten bytes.
@@ -33,9 +32,9 @@ fn write_links(buf: &mut [u8], links: &[Link])
     ensures small { Small links.now }
     ensures bytes { buf.new ≡ placed (take 10 buf.old ++ flat_map link_bytes links.now) buf.old }
 {
-    for k in 0..links.len() {
+    for (k, link) in links.iter().enumerate() {
         let at = 10 + 5 * k;
-        write_link(&mut buf[at..at + 5], links[k]);
+        write_link(&mut buf[at..at + 5], *link);
     }
 }
 
@@ -47,7 +46,7 @@ pub fn write(buf: &mut [u8], item: u8, value: u64, links: &[Link]) -> Result<usi
     ensures again { IfOk result (λ n. decode (take n buf.new) ≡ Ok (fields item value links.now)) }
 {
     let s = links.len();
-    if s < 1 || s > 8 {
+    if !(1..=8).contains(&s) {
         return Err(Refusal::Frame);
     }
     let size = 10 + 5 * s;

@@ -1,19 +1,13 @@
-use Rattle.std.proofs.Common.{◌≡◌, ◌+◌, ◌^◌, ◌<◌, ◌++◌, length, get_or, take, drop, sym, ap, ◌∙◌, subst, arith, length-append}
+use Rattle.std.proofs.Common.{◌≡◌, ◌+◌, ◌^◌, ◌<◌, ◌++◌, length, get_or, take, sym, ap, ◌∙◌, arith, length-append}
 use Rattle.std.specs.List.{flat_map}
 use Rattle.std.proofs.ByRecursion.{All-more}
-use Rattle.std.proofs.lemmas.List.{append-nil, flat_map_more, length-take-le, take_all, take-append-drop, take_more}
+use Rattle.std.proofs.lemmas.List.{flat_map_more, length-take-le, take_more}
 use Rattle.frames.specs.declared.link.Link.{Link}
-use Rattle.frames.specs.Bytes.{link_bytes, placed, size_of, Small}
+use Rattle.frames.specs.Bytes.{link_bytes, placed, size_of}
 use Rattle.frames.specs.Texts.{no_link}
 use Rattle.frames.proofs.Linking.{length_links}
 use Rattle.frames.proofs.Placing.{put_next}
 use Rattle.frames.proofs.writer.write_links.Goals as goal
-
-pub loop-k-init : goal.loop-k-init
-loop-k-init c =
-    let e = c.args.buf.now in
-    let ten = length-take-le 10 e (omega arith) in
-    (tt, sym (ap (λ l. placed l e) (append-nil (take 10 e)) ∙ ap (λ n. take 10 e ++ drop n e) ten ∙ take-append-drop 10 e))
 
 pub loop-k-preserved : goal.loop-k-preserved
 loop-k-preserved c =
@@ -29,13 +23,3 @@ loop-k-preserved c =
       All-more (λ (l : Link). (l.processor < 256) × (l.seal < 2 ^ 32)) ls k no_link c.loop-k-test.true c.loop-k.invariant.0 c.write_link.ensures.small,
       put_next front e c.loop-k.buf c.loop-k.invariant.1 c.write_link.new.part (size_of k) _ long (omega (arith, ap length wrote)) ∙ ap (λ l. placed l e) (ap (λ l. front ++ l) wrote ∙ more),
     )
-
-pub returns : goal.returns
-returns c =
-    let e = c.args.buf.now in
-    let ls = c.args.links.now in
-    let all : take c.loop-k.k ls ≡ ls = take_all c.loop-k.k ls (omega arith) in
-    record {
-      small = subst Small all c.loop-k.invariant.0;
-      bytes = c.loop-k.invariant.1 ∙ ap (λ l. placed (take 10 e ++ flat_map link_bytes l) e) all;
-    }
