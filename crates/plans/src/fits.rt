@@ -7,9 +7,10 @@ use crate::plan::{Appointment, Plan, Sizes};
 use refusals::Refusal;
 use seals::Scheme;
 
-// The longest text of a frame's link, and the most that one signer seals in a run.
+// The longest text of a frame's link: `frames::LONGEST_TEXT`, named here since a plan knows no frames.
 const TEXT: usize = 18;
 
+// The most that one signer seals in a run.
 const SEALS: usize = 16;
 
 // Whether each signer up to n has enough left.

@@ -5,13 +5,10 @@ ghost use Rattle.frames.specs.Views.{fields_of};
 ghost use Rattle.plans.specs.Setups.{setup_of};
 ghost use Rattle.processor.specs.Chains.{is_repeat, is_wrong, numbered, not_own, linked, is_sealed, sealed, chained};
 
-use frames::Frame;
+use frames::{Frame, LONGEST_TEXT};
 use plans::Plan;
 use refusals::Refusal;
 use seals::Scheme;
-
-// The longest text of a link.
-const TEXT: usize = 18;
 
 // Whether the number at place k stands at an earlier place.
 fn is_repeat(processors: &[u8], k: usize) -> bool
@@ -83,7 +80,7 @@ fn is_sealed<S: Scheme>(scheme: &S, frame: &Frame<'_>, k: u8) -> bool
     let Some(link) = frame.link(k) else {
         return false;
     };
-    let mut text = [0; TEXT];
+    let mut text = [0; LONGEST_TEXT];
     let Some(size) = frame.text(k, &mut text) else {
         return false;
     };
