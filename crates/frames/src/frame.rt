@@ -45,6 +45,7 @@ impl Frame<'_> {
         self.parts().len() as u8
     }
 
+    // Whether there is a link k, counted from 1.
     fn has_link(&self, k: u8) -> bool
         ensures { result ≡ is_link (fields_of self.now) k }
     {
@@ -61,7 +62,7 @@ impl Frame<'_> {
         Some(Link::from(self.parts()[k as usize - 1]))
     }
 
-    // The processor numbers of the links, and then zeros.
+    // The processor numbers of the links, and then zeros: an array of eight, since there is no heap here.
     pub fn processors(&self) -> [u8; 8]
         ensures { result ≡ placed (numbers_of (fields_of self.now).links) (replicate 8 0) }
     {

@@ -15,7 +15,8 @@ pub fn read(bytes: &[u8]) -> Result<Frame<'_>, Refusal>
     let [item, a, b, c, d, e, f, g, h, s, links @ ..] = bytes else {
         return Err(Refusal::Frame);
     };
-    if !(1..=8).contains(s) || links.len() != 5 * *s as usize {
+    let count = *s as usize;
+    if !(1..=8).contains(&count) || links.len() != 5 * count {
         return Err(Refusal::Frame);
     }
     let value = u64::from_be_bytes([*a, *b, *c, *d, *e, *f, *g, *h]);

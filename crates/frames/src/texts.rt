@@ -8,7 +8,7 @@ use crate::writer::write_header;
 pub const LONGEST_TEXT: usize = 18;
 
 // Writes the text that the last of these processors seals to the front of the buffer, and answers its length; nothing
-// for more than eight processors.
+// for more than eight processors. The caller lends the bytes: no heap here.
 pub fn link_text(
     item: u8,
     value: u64,
@@ -19,11 +19,11 @@ pub fn link_text(
     ensures bytes { out.new ≡ text_left (nat_le (length processors.now) 8) (text_for item value processors.now) out.old }
     ensures front { MatchOption result (out.new ≡ out.old) (λ n. (n ≤ 18) × (take n out.new ≡ text_for item value processors.now)) }
 {
-    let k = processors.len();
-    if k > 8 {
+    let count = processors.len();
+    if count > 8 {
         return None;
     }
-    write_header(out, item, value, k as u8);
-    out[10..10 + k].copy_from_slice(processors);
-    Some(10 + k)
+    write_header(out, item, value, count as u8);
+    out[10..10 + count].copy_from_slice(processors);
+    Some(10 + count)
 }

@@ -40,20 +40,21 @@ fn write_links(buf: &mut [u8], links: &[Link])
 
 // Writes the frame into the front of the buffer, and answers its length; row 30, and nothing written, where the
 // links are none or more than eight or the buffer is too short.
+// Item and value stand apart, as every caller has them: a struct of both would be made for one call.
 pub fn write(buf: &mut [u8], item: u8, value: u64, links: &[Link]) -> Result<usize, Refusal>
     ensures answer { result ≡ writes buf.old (fields item value links.now) }
     ensures bytes { buf.new ≡ written buf.old (fields item value links.now) }
     ensures again { IfOk result (λ n. decode (take n buf.new) ≡ Ok (fields item value links.now)) }
 {
-    let s = links.len();
-    if !(1..=8).contains(&s) {
+    let count = links.len();
+    if !(1..=8).contains(&count) {
         return Err(Refusal::Frame);
     }
-    let size = 10 + 5 * s;
+    let size = 10 + 5 * count;
     if buf.len() < size {
         return Err(Refusal::Frame);
     }
-    write_header(buf, item, value, s as u8);
+    write_header(buf, item, value, count as u8);
     write_links(buf, links);
     Ok(size)
 }

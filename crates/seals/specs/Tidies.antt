@@ -1,7 +1,8 @@
 -- A book keeps what every scheme keeps.
-use Rattle.std.specs.Prelude.{◌^◌, ◌<◌, ◌≤◌, List, [], ◌∷◌, map, length, take}
-use Rattle.std.proofs.Common.{arith, length-take}
+use Rattle.std.specs.Prelude.{◌≡◌, ◌^◌, ◌<◌, ◌≤◌, List, [], ◌∷◌, map, length, take}
+use Rattle.std.proofs.Common.{◌∙◌, arith, length-take}
 use Rattle.std.specs.List.{AllByRecursion}
+use Rattle.std.proofs.lemmas.List.{length-map, length-take-le}
 use Rattle.seals.specs.Meanings.{Tidy}
 use Rattle.seals.specs.Entries.{triple_of}
 use Rattle.seals.specs.Books.{book_of}
@@ -26,3 +27,7 @@ book_tidy b = record {
   least = omega arith;
   most = omega arith;
 }
+
+-- there are as many triples as used entries
+pub used_triples : (b : Book) → length (book_of b).triples ≡ b.used
+used_triples b = length-map (take b.used b.entries) triple_of ∙ length-take-le b.used b.entries (omega (arith, b.places, b.space))

@@ -19,6 +19,7 @@ pub struct Book {
     pub entries: [Entry; PLACES],
     pub used: usize,
     pub left: [u8; SIGNERS],
+    ghost places: { length entries ≡ 512 },
     ghost eight: { length left ≡ 8 },
     ghost space: { used + sum left ≤ 512 },
     ghost once: { single (triples_of used entries) ≡ true },

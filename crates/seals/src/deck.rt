@@ -8,6 +8,7 @@ use crate::numbering::Numbering;
 use crate::register::Register;
 
 // Row p - 1 of `hands` is signer p's, and the first `dealt` numbers of it are dealt.
+// Arrays with a length: no heap here, and a deck is copied.
 #[derive(Clone, Copy, Debug, PartialEq, Eq)]
 pub struct Hands {
     dealt: usize,

@@ -6,6 +6,7 @@ use crate::book::{Book, EACH};
 use crate::numbering::Numbering;
 use crate::register::Register;
 
+// The first seal has the number 1.
 #[derive(Clone, Copy, Debug, PartialEq, Eq)]
 pub struct InOrder;
 

@@ -4,7 +4,7 @@ ghost use Rattle.seals.specs.Meanings.{answered, signed, given};
 ghost use Rattle.seals.specs.Books.{book_of};
 ghost use Rattle.seals.specs.Tidies.{book_tidy};
 
-use crate::book::{Book, SIGNERS};
+use crate::book::Book;
 use crate::entry::LONGEST;
 use crate::numbering::Numbering;
 use crate::scheme::Scheme;
@@ -27,7 +27,7 @@ impl<N: Numbering> Scheme for Register<N> {
         ensures number { result ≡ answered (book_of self.old.book) signer text.now (N.number self.old.numbering (book_of self.old.book) signer) }
         ensures numbering { self.new.numbering ≡ self.old.numbering }
     {
-        if !(1..=SIGNERS).contains(&(signer as usize)) {
+        if !(1..=8).contains(&signer) {
             return Err(Refusal::Signer);
         }
         if text.len() > LONGEST {

@@ -4,6 +4,7 @@ ghost use Rattle.seals.specs.Meanings.{Meaning, Tidy, answered, signed, given, h
 
 use refusals::Refusal;
 
+// A signer and a text stand apart, as every caller has them: a struct of both would be made for one call.
 pub trait Scheme {
     ghost meaning: { Self → Meaning };
 

@@ -13,6 +13,7 @@ invariant_of-self c =
     let room = room_more b c.args.signer c.requires.signer c.requires.room in
     let more = grown b c.new.result x (omega (arith, room.0)) c.new.ensures in
     record {
+      places = length-set _ _ _ ∙ b.places;
       eight = length-set _ _ _ ∙ b.eight;
       space = room.1;
       once = subst (λ l. single l ≡ true) (sym more) (single_push es x b.once c.requires.fresh);
