@@ -2,13 +2,20 @@
 use Rattle.std.proofs.Common.{◌≡◌, ℕ, zero, suc, ◌+◌, ◌-◌, ◌<◌, ◌≤◌, Bool, true, false, ◌⊎◌, List, length, Some, None, Option, refl, ap, ◌∙◌, inl, inr, add-one, arith}
 use Rattle.std.specs.Prelude.{IfSome, slice_index_or}
 use Rattle.std.specs.List.{position, position_or_len}
+
+use Rattle.std.proofs.Common.{◌≡◌, ℕ, zero, suc, ◌+◌, ◌-◌, ◌<◌, ◌≤◌, Bool, true, false, ◌⊎◌, List, length, get_or, take, Some, None, Option, refl, sym, ap, ◌∙◌, inl, inr, add-one, arith}
+use Rattle.std.specs.Prelude.{slice_index_or}
+use Rattle.std.specs.List.{find, list_any, position, position_or_len}
 use Rattle.std.specs.List.{list_all, range_with_len}
 use Rattle.std.specs.Prelude.{not, is_some, ◌&&◌, ◌∷◌, [], ◌++◌}
 use Rattle.std.proofs.iter.Rest.{range_with_len_last}
-use Rattle.std.proofs.lemmas.List.Folds.{list_all-append}
+use Rattle.std.proofs.lemmas.List.{get_or_default, get_or-take, length-take-le}
+use Rattle.std.proofs.lemmas.List.Folds.{find_at, list_all-append, list_any_at, list_any_none}
+use Rattle.std.proofs.lemmas.List.FromFn.{length-range_with_len, get_or-range_with_len}
 use Rattle.std.proofs.lemmas.List.Sums.{fails_before_first, passes_at_first}
+use Rattle.std.proofs.lemmas.Option.{slice_get-get_or, slice_get_past}
 use native.Mathlib.Decide.{ℕ_discrete}
-use Rattle.std.proofs.lemmas.Bool.{cases_order}
+use Rattle.std.proofs.lemmas.Bool.{cases_order, cases_lt}
 use Rattle.refusals.specs.Places.{first, or_here}
 
 pub first_none : (P : ℕ → Bool) → first P 0 ≡ None
@@ -103,3 +110,43 @@ first_within P m b h = by (first P m) refl
     by : (o : Option ℕ) → first P m ≡ o → IfSome o (λ k. k < b)
     by None e = tt
     by (Some k) e = omega (arith, (first_found P m k e).0)
+
+-- what `any` and `contains` answer of the first n elements
+pub first_any : {X : Type 0} (p : X → Bool) (xs : List X) (n : ℕ) (d : X) → n ≤ length xs → list_any p (take n xs) ≡ is_some (first (λ k. p (get_or xs k d)) n)
+first_any p xs n d h = by (first (λ k. p (get_or xs k d)) n) refl
+  where
+    long : length (take n xs) ≡ n
+    long = length-take-le n xs h
+
+    by : (o : Option ℕ) → first (λ k. p (get_or xs k d)) n ≡ o → list_any p (take n xs) ≡ is_some o
+    by (Some k) e =
+        let found = first_found (λ k. p (get_or xs k d)) n k e in
+        list_any_at p (take n xs) k d (omega (arith, long, found.0)) (ap p (get_or-take n xs k d found.0) ∙ found.1)
+    by None e = list_any_none p (take n xs) (λ k c l.
+        let within : k < n = omega (arith, long, l) in
+        ap p (get_or-take n xs k c within ∙ get_or_default xs k c d (omega arith)) ∙ none_at (λ k. p (get_or xs k d)) n k e within)
+
+-- what `find` answers of the numbers below n
+pub first_find : (P : ℕ → Bool) (n : ℕ) → find P (range_with_len 0 n) ≡ first P n
+first_find P n = by (cases_lt i n)
+  where
+    ks : List ℕ
+    ks = range_with_len 0 n
+
+    i : ℕ
+    i = position_or_len P ks
+
+    long : length ks ≡ n
+    long = length-range_with_len 0 n
+
+    at : (k : ℕ) → k < n → get_or ks k 0 ≡ k
+    at k l = let n = get_or-range_with_len 0 n k 0 l in omega arith
+
+    none : (m : ℕ) → m ≤ n → m ≤ i → first P m ≡ None
+    none m l h = none_from P m (λ k b. ap P (sym (at k (omega arith))) ∙ fails_before_first P ks k 0 (omega arith))
+
+    by : (i < n) ⊎ (n ≤ i) → find P ks ≡ first P n
+    by (inl l) =
+        let within : i < length ks = omega (arith, long) in
+        find_at P ks ∙ slice_get-get_or ks i 0 within ∙ ap Some (at i l) ∙ sym (first_stop P i n l (none i (omega arith) (omega arith)) (ap P (sym (at i l)) ∙ passes_at_first P ks 0 within))
+    by (inr h) = find_at P ks ∙ slice_get_past ks i (omega (arith, long)) ∙ sym (none n (omega arith) h)
