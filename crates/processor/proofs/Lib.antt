@@ -1,5 +1,6 @@
 pub mod Entering
 mod Relays
+mod Linking
 mod Takes
 pub mod Outcomes
 pub mod Dropping

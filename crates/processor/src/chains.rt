@@ -1,9 +1,10 @@
 // The tests of a frame's links: rows 35, 36 and 37, each over all links.
-ghost use Rattle.std.specs.Prelude.{◌≡◌, ◌<◌, ◌≤◌, length};
+ghost use Rattle.std.specs.Prelude.{◌≡◌, ◌+◌, ◌<◌, ◌==◌, ◌≤◌, not, length, find, position, IfSome};
+ghost use Rattle.std.specs.List.{range_with_len};
 ghost use Rattle.frames.specs.Texts.{numbers_of};
 ghost use Rattle.frames.specs.Views.{fields_of};
 ghost use Rattle.plans.specs.Setups.{setup_of};
-ghost use Rattle.processor.specs.Chains.{is_repeat, is_wrong, numbered, not_own, linked, is_sealed, sealed, chained};
+ghost use Rattle.processor.specs.Chains.{is_repeat, is_wrong, linked, is_sealed, sealed, chained};
 
 use frames::{Frame, LONGEST_TEXT};
 use plans::Plan;
@@ -15,12 +16,7 @@ fn is_repeat(processors: &[u8], k: usize) -> bool
     requires { k < length processors.now }
     ensures { result ≡ is_repeat processors.now k }
 {
-    for j in 0..k {
-        if processors[j] == processors[k] {
-            return true;
-        }
-    }
-    false
+    processors[..k].contains(&processors[k])
 }
 
 fn is_wrong(n: u8, processors: &[u8], k: usize) -> bool
@@ -30,39 +26,35 @@ fn is_wrong(n: u8, processors: &[u8], k: usize) -> bool
     processors[k] < 1 || processors[k] > n || is_repeat(processors, k)
 }
 
-// Row 35.
-fn are_numbered(n: u8, processors: &[u8]) -> Result<(), Refusal>
-    requires { length processors.now ≤ 8 }
-    ensures { result ≡ numbered n processors.now }
+// The first place of a number that is not 1 to n, or is a repeat.
+fn first_wrong(n: u8, processors: &[u8]) -> Option<usize>
+    ensures within { IfSome result (λ k. k < length processors.now) }
+    ensures is { result ≡ find (is_wrong n processors.now) (range_with_len 0 (length processors.now)) }
 {
-    for k in 0..processors.len() {
-        if is_wrong(n, processors, k) {
-            return Err(Refusal::Link(k as u8 + 1));
-        }
-    }
-    Ok(())
+    (0..processors.len()).find(|k| is_wrong(n, processors, *k))
 }
 
-// Row 36.
-fn are_not_own(own: u8, processors: &[u8]) -> Result<(), Refusal>
-    requires { length processors.now ≤ 8 }
-    ensures { result ≡ not_own own processors.now }
+// The first place of the own number.
+fn first_own(own: u8, processors: &[u8]) -> Option<usize>
+    ensures within { IfSome result (λ k. k < length processors.now) }
+    ensures is { result ≡ position (λ p. p == own) processors.now }
 {
-    for k in 0..processors.len() {
-        if processors[k] == own {
-            return Err(Refusal::Own(k as u8 + 1));
-        }
-    }
-    Ok(())
+    processors.iter().position(|p| *p == own)
 }
 
 // Rows 35 and 36.
+#[tactic(auto, using(refusals::proofs::Firsts::first_find))]
 fn are_linked(n: u8, own: u8, processors: &[u8]) -> Result<(), Refusal>
     requires { length processors.now ≤ 8 }
     ensures { result ≡ linked n own processors.now }
 {
-    are_numbered(n, processors)?;
-    are_not_own(own, processors)
+    if let Some(k) = first_wrong(n, processors) {
+        return Err(Refusal::Link(k as u8 + 1));
+    }
+    if let Some(k) = first_own(own, processors) {
+        return Err(Refusal::Own(k as u8 + 1));
+    }
+    Ok(())
 }
 
 // Rows 35 and 36 of a frame at processor `own`.
@@ -70,7 +62,7 @@ fn numbers_stand(n: u8, own: u8, frame: &Frame<'_>) -> Result<(), Refusal>
     ensures { result ≡ linked n own (numbers_of (fields_of frame.now).links) }
 {
     let numbers = frame.processors();
-    are_linked(n, own, &numbers[0..frame.count() as usize])
+    are_linked(n, own, &numbers[..frame.count() as usize])
 }
 
 // Whether link k, counted from 1, has the seal of its processor on its text.
@@ -87,16 +79,23 @@ fn is_sealed<S: Scheme>(scheme: &S, frame: &Frame<'_>, k: u8) -> bool
     scheme.check(link.processor, &text[0..size], link.seal)
 }
 
+// The first place of a link that is not sealed.
+fn first_unsealed<S: Scheme>(scheme: &S, frame: &Frame<'_>) -> Option<u8>
+    ensures is { result ≡ find (λ k. not (is_sealed (S.Scheme.meaning scheme.now).triples (fields_of frame.now) (k + 1))) (range_with_len 0 (length (fields_of frame.now).links)) }
+    ensures within { IfSome result (λ k. k < 8) }
+{
+    (0..frame.count()).find(|k| !is_sealed(scheme, frame, *k + 1))
+}
+
 // Row 37.
+#[tactic(auto, using(refusals::proofs::Firsts::first_find))]
 fn are_sealed<S: Scheme>(scheme: &S, frame: &Frame<'_>) -> Result<(), Refusal>
     ensures { result ≡ sealed (S.Scheme.meaning scheme.now).triples (fields_of frame.now) }
 {
-    for k in 0..frame.count() {
-        if !is_sealed(scheme, frame, k + 1) {
-            return Err(Refusal::Forged(k + 1));
-        }
+    match first_unsealed(scheme, frame) {
+        Some(k) => Err(Refusal::Forged(k + 1)),
+        None => Ok(()),
     }
-    Ok(())
 }
 
 // Rows 35, 36 and 37 of a frame at processor `own`.
