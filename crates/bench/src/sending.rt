@@ -99,7 +99,7 @@ impl<S: Scheme, K: Kind> Bench<S, K> {
         let q = self.inner.actor(&plan, p, item)?;
         let reading = self.inner.reading(q);
         let mut part = self.inner.seats.part(q);
-        let decision = part.decide(&plan, &self.kind, reading, item)?;
+        let decision = part.decide(&plan, reading, item)?;
         self.inner.seats.set_part(q, part);
         Ok(decision)
     }

@@ -1,4 +1,4 @@
-pub mod Entering
+mod Entering
 mod Relays
 mod Linking
 mod Takes

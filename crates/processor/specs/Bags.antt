@@ -7,10 +7,7 @@ use Rattle.processor.specs.declared.part.Bag.TheVariants.{Empty, One, Two, Close
 use Rattle.processor.specs.declared.part.Decision.{Decision}
 use Rattle.processor.specs.declared.part.Decision.TheVariants.{Default, Value}
 use Rattle.processor.specs.declared.part.Part.{Part}
-use Rattle.processor.specs.declared.bags.Event.{Event}
-use Rattle.processor.specs.declared.bags.Event.TheVariants.{Arrives, Decides}
-use Rattle.processor.specs.declared.bags.Outcome.{Outcome}
-use Rattle.processor.specs.declared.bags.Outcome.TheVariants.{Joined, Refused, Decided}
+use Rattle.processor.specs.Steps.{after_on}
 
 -- what a bag decides: the value of one, the default of none or two, and what was decided before
 abbrev pub decision_of : Bag → Decision
@@ -26,15 +23,13 @@ joined same (One a) v = cond (same a v) (Err Same) (Ok (Two a v))
 joined same (Two a b) v = cond (same a v || same b v) (Err Same) (Err Full)
 joined same (Closed d) v = Err IsClosed
 
--- a refusal leaves the bag as it was
-abbrev pub arrival : Bag → Result Bag Refusal → Outcome × Bag
-arrival b (Ok more) = (Joined, more)
-arrival b (Err r) = (Refused r, b)
+-- a value joins, or a refusal leaves the bag as it was
+abbrev pub joins : (ℕ → ℕ → Bool) → Bag → ℕ → Result Unit Refusal × Bag
+joins same b v = after_on b (joined same b v) (λ more. (Ok tt, more))
 
--- a value arrives, or a decision closes the bag
-abbrev pub takes : (ℕ → ℕ → Bool) → Bag → Event → Outcome × Bag
-takes same b (Arrives v) = arrival b (joined same b v)
-takes same b Decides = (Decided (decision_of b), Closed (decision_of b))
+-- a decision closes the bag
+abbrev pub closes : Bag → Decision × Bag
+closes b = (decision_of b, Closed (decision_of b))
 
 -- the part with another bag for the item
 abbrev pub with_bag : Part → ℕ → Bag → Part

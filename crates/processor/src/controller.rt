@@ -90,8 +90,7 @@ impl<K: Kind> Processor<K> {
         ensures { (result, controller_of self.new) ≡ passed (λ s p. decided s reading item p) (controller_of self.old) }
     {
         let plan = self.plan?;
-        let kind = self.kind;
-        self.part.decide(&plan, &kind, reading, item)
+        self.part.decide(&plan, reading, item)
     }
 
     // The recorded decision of an item, if there is one.

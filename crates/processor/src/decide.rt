@@ -4,22 +4,14 @@ ghost use Rattle.plans.specs.Setups.{setup_of};
 ghost use Rattle.processor.specs.Deciding.{decided};
 
 use crate::agenda::appointment;
-use crate::bags::{Event, Outcome};
 use crate::part::{Decision, Part};
 use crate::windows::end;
-use kinds::Kind;
 use plans::Plan;
 use refusals::Refusal;
 
 impl Part {
     // The decision on an item, which stands once it is given.
-    pub fn decide<K: Kind>(
-        &mut self,
-        plan: &Plan,
-        kind: &K,
-        reading: u64,
-        item: u32,
-    ) -> Result<Decision, Refusal>
+    pub fn decide(&mut self, plan: &Plan, reading: u64, item: u32) -> Result<Decision, Refusal>
         ensures { (result, self.new) ≡ decided (setup_of plan.now) reading item self.old }
     {
         let appointment = appointment(plan, item, Refusal::Item)?;
@@ -29,9 +21,6 @@ impl Part {
         if reading < end(plan, appointment.reading) {
             return Err(Refusal::Wait);
         }
-        match self.bags[item as usize - 1].take(kind, Event::Decides) {
-            Outcome::Decided(decision) => Ok(decision),
-            Outcome::Joined | Outcome::Refused(_) => unreachable(),
-        }
+        Ok(self.bags[item as usize - 1].close())
     }
 }

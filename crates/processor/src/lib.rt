@@ -17,7 +17,6 @@ mod relaying;
 mod state;
 mod windows;
 
-pub use bags::{Event, Outcome};
 pub use controller::Processor;
 pub use examples::examples_stand;
 pub use owed::Owed;

@@ -5,7 +5,6 @@ ghost use Rattle.plans.specs.Setups.{setup_of};
 ghost use Rattle.processor.specs.Receiving.{headed, entered, owes, arrived, received};
 
 use crate::agenda::appointment;
-use crate::bags::{Event, Outcome};
 use crate::chains::chain_stands;
 use crate::owed::Owed;
 use crate::part::Part;
@@ -51,11 +50,7 @@ impl Part {
         requires high { item ≤ 8 }
         ensures { (result, self.new) ≡ entered K.Kind.same tt item value self.old }
     {
-        let outcome = self.bags[item as usize - 1].take(kind, Event::Arrives(value));
-        match outcome {
-            Outcome::Refused(refusal) => Err(refusal),
-            Outcome::Joined | Outcome::Decided(_) => Ok(()),
-        }
+        self.bags[item as usize - 1].join(kind, value)
     }
 
     // Rows 31 to 42.
