@@ -1,7 +1,7 @@
 mod Entering
 mod Relays
 mod Linking
-mod Takes
+mod Named
 pub mod Outcomes
 pub mod Dropping
 pub mod Sealing

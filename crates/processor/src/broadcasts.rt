@@ -17,10 +17,7 @@ fn link_at(frame: &Frame<'_>, k: u8) -> Link
     requires { 1 ≤ k }
     ensures { result ≡ slice_index_or (fields_of frame.now).links (k - 1) no_link }
 {
-    match frame.link(k) {
-        Some(link) => link,
-        None => NO_LINK,
-    }
+    frame.link(k).unwrap_or(NO_LINK)
 }
 
 impl Owed {

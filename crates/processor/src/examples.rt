@@ -1,8 +1,6 @@
 // Examples of the rules, as a theorem.
 ghost use Rattle.processor.specs.Examples.{Examples};
 
-pub fn examples_stand() -> u8
+pub fn examples_stand()
     ensures { Examples }
-{
-    0
-}
+{}

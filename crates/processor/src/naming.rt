@@ -1,19 +1,10 @@
 // Whom an owed broadcast names: it goes to all others.
-ghost use Rattle.std.specs.Prelude.{◌≡◌};
-ghost use Rattle.processor.specs.Naming.{is_in, is_named};
+ghost use Rattle.std.specs.Prelude.{◌≡◌, ◌==◌};
+ghost use Rattle.std.specs.List.{list_any};
+ghost use Rattle.processor.specs.Broadcasts.{links_in};
+ghost use Rattle.processor.specs.Naming.{is_named};
 
 use crate::owed::Owed;
-
-fn is_in(numbers: &[u8], p: u8) -> bool
-    ensures { result ≡ is_in numbers.now p }
-{
-    for number in numbers {
-        if *number == p {
-            return true;
-        }
-    }
-    false
-}
 
 impl Owed {
     // The item that the broadcast is of.
@@ -30,18 +21,20 @@ impl Owed {
         self.own
     }
 
+    // Whether p is the processor of a link so far.
+    fn has_link_of(&self, p: u8) -> bool
+        ensures { result ≡ list_any (λ link. link.processor == p) (links_in self.now) }
+    {
+        self.links()
+            .iter()
+            .take(self.count as usize)
+            .any(|link| link.processor == p)
+    }
+
     // Whether p is named in the broadcast: as its author, or in a link so far.
     pub fn names(&self, p: u8) -> bool
         ensures { result ≡ is_named self.now p }
     {
-        let numbers = [
-            self.first.processor,
-            self.second.processor,
-            self.third.processor,
-            self.fourth.processor,
-            self.fifth.processor,
-            self.sixth.processor,
-        ];
-        self.own == p || is_in(&numbers[..self.count.min(6) as usize], p)
+        self.own == p || self.has_link_of(p)
     }
 }

@@ -23,10 +23,10 @@ impl Part {
         ensures { (result, self.new) ≡ opened K.Kind.admitted (setup_of plan.now) reading item value self.old }
     {
         let appointment = appointment(plan, item, Refusal::Item)?;
-        if reading != appointment.reading as u64 {
+        if reading != u64::from(appointment.reading) {
             return Err(Refusal::Moment);
         }
-        if self.own as u32 != appointment.sender {
+        if u32::from(self.own) != appointment.sender {
             return Err(Refusal::Sender);
         }
         let Bag::Empty = self.bags[item as usize - 1] else {

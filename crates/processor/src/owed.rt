@@ -1,7 +1,10 @@
 // A broadcast that is owed: the item, the value, the own number and the links so far, of which the first `count` are taken.
 // It is neither copied nor let go: `relay` or `forgo` spends it.
+ghost use Rattle.std.specs.Prelude.{◌≡◌, [], ◌∷◌};
+
 use frames::Link;
 
+// The links stand in plain fields: nothing of what is owed lies on a heap.
 pub struct Owed {
     pub(crate) item: u8,
     pub(crate) value: u64,
@@ -13,4 +16,20 @@ pub struct Owed {
     pub(crate) fourth: Link,
     pub(crate) fifth: Link,
     pub(crate) sixth: Link,
+}
+
+impl Owed {
+    // The links, of which the first `count` are taken.
+    pub(crate) fn links(&self) -> [Link; 6]
+        ensures { result ≡ self.now.first ∷ self.now.second ∷ self.now.third ∷ self.now.fourth ∷ self.now.fifth ∷ self.now.sixth ∷ [] }
+    {
+        [
+            self.first,
+            self.second,
+            self.third,
+            self.fourth,
+            self.fifth,
+            self.sixth,
+        ]
+    }
 }

@@ -20,7 +20,7 @@ fn head_stands<K: Kind>(plan: &Plan, kind: &K, frame: &Frame<'_>) -> Result<Appo
     ensures is { result ≡ headed K.Kind.admitted (setup_of plan.now) (fields_of frame.now) }
     ensures within { OnOk result ((1 ≤ (fields_of frame.now).item) × ((fields_of frame.now).item ≤ 8)) }
 {
-    let appointment = appointment(plan, frame.item() as u32, Refusal::Row)?;
+    let appointment = appointment(plan, u32::from(frame.item()), Refusal::Row)?;
     if !kind.admits(frame.value()) {
         return Err(Refusal::Code);
     }
@@ -28,7 +28,7 @@ fn head_stands<K: Kind>(plan: &Plan, kind: &K, frame: &Frame<'_>) -> Result<Appo
         return Err(Refusal::Long);
     }
     match frame.link(1) {
-        Some(link) if link.processor as u32 == appointment.sender => Ok(appointment),
+        Some(link) if u32::from(link.processor) == appointment.sender => Ok(appointment),
         _ => Err(Refusal::First),
     }
 }

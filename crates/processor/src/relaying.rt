@@ -1,8 +1,9 @@
 // Spending what is owed: the broadcast is sealed and written as a frame, or given up.
-ghost use Rattle.std.specs.Prelude.{◌≡◌, ℕ, ◌+◌, ◌≤◌, take, IfOk, Ok};
+ghost use Rattle.std.specs.Prelude.{◌≡◌, ℕ, ◌+◌, ◌≤◌, length, take, IfOk, Ok};
 ghost use Rattle.seals.specs.Meanings.{answered, signed, given};
-ghost use Rattle.frames.specs.Bytes.{decode, writes, written};
-ghost use Rattle.processor.specs.Relaying.{frame_of, own_links, own_numbers, own_text, relayed, sent};
+ghost use Rattle.frames.specs.Bytes.{decode};
+ghost use Rattle.frames.specs.Texts.{text_for};
+ghost use Rattle.processor.specs.Relaying.{frame_of, own_links, own_numbers, relayed, sent};
 
 use crate::owed::Owed;
 use frames::{Link, link_text, write};
@@ -33,24 +34,6 @@ pub fn forgo(owed: Owed)
     } = owed;
 }
 
-// The numbers of the links so far, and then the own; the rest is room.
-fn numbers(owed: &Owed) -> [u8; 7]
-    requires { owed.now.count ≤ 6 }
-    ensures { take (owed.now.count + 1) result ≡ own_numbers owed.now }
-{
-    let mut numbers = [
-        owed.first.processor,
-        owed.second.processor,
-        owed.third.processor,
-        owed.fourth.processor,
-        owed.fifth.processor,
-        owed.sixth.processor,
-        0,
-    ];
-    numbers[owed.count as usize] = owed.own;
-    numbers
-}
-
 // The links so far, and then the own with its seal; the rest is room.
 fn links(owed: &Owed, seal: u32) -> [Link; 7]
     requires { owed.now.count ≤ 6 }
@@ -60,44 +43,31 @@ fn links(owed: &Owed, seal: u32) -> [Link; 7]
         processor: owed.own,
         seal,
     };
-    let mut links = [
-        owed.first,
-        owed.second,
-        owed.third,
-        owed.fourth,
-        owed.fifth,
-        owed.sixth,
-        own,
-    ];
+    let [a, b, c, d, e, f] = owed.links();
+    let mut links = [a, b, c, d, e, f, own];
     links[owed.count as usize] = own;
     links
 }
 
-// Has the own link sealed. At most seven numbers always make a text.
-fn seal<S: Scheme>(owed: &Owed, scheme: &mut S) -> Result<u32, Refusal>
+// The numbers of these links.
+fn numbers(owed: &Owed) -> [u8; 7]
     requires { owed.now.count ≤ 6 }
-    ensures answer { result ≡ answered (S.Scheme.meaning scheme.old) owed.now.own (own_text owed.now) (given result) }
-    ensures after { S.Scheme.meaning scheme.new ≡ signed (S.Scheme.meaning scheme.old) owed.now.own (own_text owed.now) (given result) }
+    ensures { take (owed.now.count + 1) result ≡ own_numbers owed.now }
 {
-    let numbers = numbers(owed);
-    let count = owed.count as usize + 1;
+    links(owed, 0).map(|link| link.processor)
+}
+
+// Has the own link sealed, which is the last of the links. At most seven numbers always make a text.
+fn seal<S: Scheme>(owed: &Owed, numbers: &[u8], scheme: &mut S) -> Result<u32, Refusal>
+    requires { length numbers.now ≤ 8 }
+    ensures answer { result ≡ answered (S.Scheme.meaning scheme.old) owed.now.own (text_for owed.now.item owed.now.value numbers.now) (given result) }
+    ensures after { S.Scheme.meaning scheme.new ≡ signed (S.Scheme.meaning scheme.old) owed.now.own (text_for owed.now.item owed.now.value numbers.now) (given result) }
+{
     let mut text = [0; 18];
-    match link_text(owed.item, owed.value, &numbers[..count], &mut text) {
+    match link_text(owed.item, owed.value, numbers, &mut text) {
         Some(size) => scheme.sign(owed.own, &text[..size]),
         None => Err(Refusal::Frame),
     }
-}
-
-// Writes the frame with the own link after the links so far.
-fn write_sealed(owed: &Owed, seal: u32, out: &mut [u8; 45]) -> Result<usize, Refusal>
-    requires { owed.now.count ≤ 6 }
-    ensures answer { result ≡ writes out.old (frame_of owed.now seal) }
-    ensures bytes { out.new ≡ written out.old (frame_of owed.now seal) }
-    ensures again { IfOk result (λ n. decode (take n out.new) ≡ Ok (frame_of owed.now seal)) }
-{
-    let links = links(owed, seal);
-    let count = owed.count as usize + 1;
-    write(out, owed.item, owed.value, &links[..count])
 }
 
 // Seals and writes; row 30 for more than six links, after which nothing is owed.
@@ -107,8 +77,11 @@ fn send<S: Scheme>(owed: &Owed, scheme: &mut S, out: &mut [u8; 45]) -> Result<us
     if owed.count > 6 {
         return Err(Refusal::Frame);
     }
-    let seal = seal(owed, scheme)?;
-    write_sealed(owed, seal, out)
+    let count = owed.count as usize + 1;
+    let numbers = numbers(owed);
+    let seal = seal(owed, &numbers[..count], scheme)?;
+    let links = links(owed, seal);
+    write(out, owed.item, owed.value, &links[..count])
 }
 
 // Seals the broadcast, writes its frame to the front of the buffer and answers the frame's length.

@@ -10,9 +10,10 @@ use refusals::Refusal;
 pub(crate) fn window(plan: &Plan, start: u32, links: u8) -> (u64, u64)
     ensures { result ≡ window_of (setup_of plan.now) start links }
 {
-    let back = links as u64 * plan.e as u64;
-    let ahead = links as u64 * (plan.d as u64 + plan.e as u64);
-    ((start as u64).saturating_sub(back), start as u64 + ahead)
+    let back = u64::from(links) * u64::from(plan.e);
+    let ahead = u64::from(links) * (u64::from(plan.d) + u64::from(plan.e));
+    let start = u64::from(start);
+    (start.saturating_sub(back), start + ahead)
 }
 
 // Rows 38 and 39.
@@ -33,5 +34,5 @@ pub(crate) fn in_time(plan: &Plan, start: u32, links: u8, reading: u64) -> Resul
 pub fn end(plan: &Plan, start: u32) -> u64
     ensures { result ≡ start + delta_of (setup_of plan.now) }
 {
-    start as u64 + (plan.f as u64 + 1) * (plan.d as u64 + plan.e as u64)
+    u64::from(start) + (u64::from(plan.f) + 1) * (u64::from(plan.d) + u64::from(plan.e))
 }
