@@ -4,9 +4,10 @@ use Rattle.refusals.specs.declared.refusal.Refusal.{Refusal}
 use Rattle.refusals.specs.declared.refusal.Refusal.TheVariants.{Processor as NoProcessor}
 use Rattle.seals.specs.Meanings.{Meaning}
 use Rattle.plans.specs.declared.plan.Appointment.{Appointment}
-use Rattle.plans.specs.Setups.{Setup, setup_in}
+use Rattle.plans.specs.Setups.{Setup, setup_of}
 use Rattle.plans.specs.Schemes.{prepared}
 use Rattle.processor.specs.declared.controller.Processor.{Processor}
+use Rattle.processor.specs.declared.controller.Seat.{Seat}
 use Rattle.processor.specs.declared.part.Decision.{Decision}
 use Rattle.processor.specs.declared.part.Part.{Part}
 use Rattle.processor.specs.Parts.{fresh_part, record_of}
@@ -20,8 +21,13 @@ pub record Controller : Type 0 where
 abbrev pub controller : Result Setup Refusal → Part → Controller
 controller s p = record { plan = s; part = p }
 
+-- the seat; where the making was refused, its refusal, and nobody's part
+abbrev pub controller_in : Result Seat Refusal → Controller
+controller_in (Ok s) = controller (Ok (setup_of s.plan)) s.part
+controller_in (Err r) = controller (Err r) (fresh_part 0)
+
 abbrev pub controller_of : {K : Type 0} → Processor K → Controller
-controller_of c = controller (setup_in c.plan) c.part
+controller_of c = controller_in c.seat
 
 -- row 10: a processor is numbered 1 to n
 abbrev pub is_processor : Setup → ℕ → Bool

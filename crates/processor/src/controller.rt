@@ -1,10 +1,9 @@
 // A controller's processor: it passes calls on to its part, with what was agreed.
 ghost use Rattle.std.specs.Prelude.{◌≡◌};
-ghost use Rattle.plans.specs.Setups.{setup_in};
 ghost use Rattle.processor.specs.Opening.{opened};
 ghost use Rattle.processor.specs.Receiving.{received};
 ghost use Rattle.processor.specs.Deciding.{decided};
-ghost use Rattle.processor.specs.Controllers.{controller_of, seated, started, passed, recorded};
+ghost use Rattle.processor.specs.Controllers.{controller_in, controller_of, started, passed, recorded};
 
 use crate::owed::Owed;
 use crate::part::{Decision, Part};
@@ -13,27 +12,36 @@ use plans::{Appointment, Plan, Sizes};
 use refusals::Refusal;
 use seals::Scheme;
 
-// The plan of a run that processor `own` takes part in, or row 1, 2, 3, 4 or 10.
+// A part, and the plan that it keeps to.
+#[derive(Clone, Copy)]
+struct Seat {
+    plan: Plan,
+    part: Part,
+}
+
+// The seat of processor `own` in a run, or the row that refuses it.
 fn seated<S: Scheme>(
     sizes: Sizes,
     agenda: &[Appointment],
     own: u32,
     scheme: &S,
-) -> Result<Plan, Refusal>
-    ensures { setup_in result ≡ seated sizes.n sizes.f sizes.d sizes.e agenda.now own (S.Scheme.meaning scheme.now) }
+) -> Result<Seat, Refusal>
+    ensures { controller_in result ≡ started sizes.n sizes.f sizes.d sizes.e agenda.now own (S.Scheme.meaning scheme.now) }
 {
     let plan = Plan::prepare(sizes, agenda, scheme)?;
     if !plan.has_processor(own) {
         return Err(Refusal::Processor);
     }
-    Ok(plan)
+    Ok(Seat {
+        plan,
+        part: Part::new(own as u8),
+    })
 }
 
-// A refused making leaves its refusal in the place of the plan.
+// A refused making leaves its refusal in the place of the seat.
 #[derive(Drop)]
 pub struct Processor<K> {
-    plan: Result<Plan, Refusal>,
-    part: Part,
+    seat: Result<Seat, Refusal>,
     kind: K,
 }
 
@@ -48,17 +56,9 @@ impl<K: Kind> Processor<K> {
     ) -> Processor<K>
         ensures { controller_of result ≡ started sizes.n sizes.f sizes.d sizes.e agenda.now own (S.Scheme.meaning scheme.now) }
     {
-        match seated(sizes, agenda, own, scheme) {
-            Ok(plan) => Processor {
-                plan: Ok(plan),
-                part: Part::new(own as u8),
-                kind,
-            },
-            Err(refusal) => Processor {
-                plan: Err(refusal),
-                part: Part::new(0),
-                kind,
-            },
+        Processor {
+            seat: seated(sizes, agenda, own, scheme),
+            kind,
         }
     }
 
@@ -66,9 +66,10 @@ impl<K: Kind> Processor<K> {
     pub fn open(&mut self, reading: u64, item: u32, value: u64) -> Result<Owed, Refusal>
         ensures { (result, controller_of self.new) ≡ passed (λ s p. opened K.Kind.admitted s reading item value p) (controller_of self.old) }
     {
-        let plan = self.plan?;
-        let kind = self.kind;
-        self.part.open(&plan, &kind, reading, item, value)
+        match &mut self.seat {
+            Ok(seat) => seat.part.open(&seat.plan, &self.kind, reading, item, value),
+            Err(refusal) => Err(*refusal),
+        }
     }
 
     // Accepts a frame at a reading of the own clock, and answers the broadcast that is then owed, if one is.
@@ -80,24 +81,29 @@ impl<K: Kind> Processor<K> {
     ) -> Result<Option<Owed>, Refusal>
         ensures { (result, controller_of self.new) ≡ passed (λ s p. received K.Kind.admitted K.Kind.same s (S.Scheme.meaning scheme.now).triples reading bytes.now p) (controller_of self.old) }
     {
-        let plan = self.plan?;
-        let kind = self.kind;
-        self.part.receive(&plan, scheme, &kind, reading, bytes)
+        match &mut self.seat {
+            Ok(seat) => seat
+                .part
+                .receive(&seat.plan, scheme, &self.kind, reading, bytes),
+            Err(refusal) => Err(*refusal),
+        }
     }
 
     // The decision on an item, which stands once it is given.
     pub fn decide(&mut self, reading: u64, item: u32) -> Result<Decision, Refusal>
         ensures { (result, controller_of self.new) ≡ passed (λ s p. decided s reading item p) (controller_of self.old) }
     {
-        let plan = self.plan?;
-        self.part.decide(&plan, reading, item)
+        match &mut self.seat {
+            Ok(seat) => seat.part.decide(&seat.plan, reading, item),
+            Err(refusal) => Err(*refusal),
+        }
     }
 
     // The recorded decision of an item, if there is one.
     pub fn decision(&self, item: u32) -> Result<Option<Decision>, Refusal>
         ensures { result ≡ recorded item (controller_of self.now) }
     {
-        let _plan = self.plan?;
-        Ok(self.part.decision(item))
+        let seat = self.seat?;
+        Ok(seat.part.decision(item))
     }
 }

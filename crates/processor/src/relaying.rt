@@ -16,7 +16,7 @@ pub struct Unsent {
     pub owed: Owed,
 }
 
-// Gives the broadcast up.
+// Gives the broadcast up: each field is named, since `..` would leave it owed.
 pub fn forgo(owed: Owed)
     ensures { result ≡ tt }
 {
