@@ -1,5 +1,4 @@
 mod Entering
-mod Relays
 mod Linking
 mod Named
 pub mod Outcomes

@@ -4,7 +4,7 @@ ghost use Rattle.std.specs.Prelude.{◌≡◌, [], ◌∷◌};
 
 use frames::Link;
 
-// The links stand in plain fields: nothing of what is owed lies on a heap.
+// Plain fields with their count: no heap here.
 pub struct Owed {
     pub(crate) item: u8,
     pub(crate) value: u64,

@@ -1,6 +1,6 @@
 // The state of one processor: its number, and a bag for each item.
 
-// What a processor decides of an item.
+// What a processor decides of an item. No Option: what is recorded is an `Option<Decision>`, whose `None` says undecided.
 #[derive(Clone, Copy, Debug, PartialEq, Eq)]
 pub enum Decision {
     Default,
@@ -16,6 +16,7 @@ pub enum Bag {
     Closed(Decision),
 }
 
+// The bags lie in an array: no heap here. The plan and the kind are lent to each call: a bench has one for all its parts.
 #[derive(Clone, Copy, Debug, PartialEq, Eq)]
 pub struct Part {
     pub own: u8,

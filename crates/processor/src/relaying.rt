@@ -34,7 +34,7 @@ pub fn forgo(owed: Owed)
     } = owed;
 }
 
-// The links so far, and then the own with its seal; the rest is room.
+// The links so far, and then the own with its seal. An array with room behind them: no heap here.
 fn links(owed: &Owed, seal: u32) -> [Link; 7]
     requires { owed.now.count ≤ 6 }
     ensures { take (owed.now.count + 1) result ≡ own_links owed.now seal }
