@@ -1,24 +1,37 @@
 -- How bytes are cut at a separator. Assumes nothing.
-use Rattle.std.proofs.Common.{◌≡◌, ℕ, zero, suc, ◌<◌, false, eqb, List, [], ◌∷◌, length, get_or, take, drop, refl, ap, ◌∙◌, arith}
-use Rattle.std.proofs.lemmas.Bool.{cond-true, cond-false, cond_both, eq-eqb, ne_eqb}
-use Rattle.lines.specs.Cut.{pieces, onto, is_nil}
+use native.Mathlib.Nat.{sub-zero}
+use Rattle.std.proofs.Common.{◌≡◌, ℕ, ◌+◌, ◌==◌, cond, Bool, false, eqb, ltb, List, [], ◌∷◌, length, take, drop, Some, None, refl, ap, sym, ◌∙◌, subst, Option, position, arith}
+use Rattle.std.specs.List.{onto_first, position_or_len, slice_split}
+use Rattle.std.proofs.lemmas.Bool.{cond_both, ltb-true, ltb-false}
+use Rattle.std.proofs.lemmas.List.{take_rest}
+use Rattle.std.proofs.lemmas.List.Elements.{All-from_get_or}
+use Rattle.std.proofs.lemmas.List.Splits.{slice_split_first, slice_split_none}
+use Rattle.std.proofs.lemmas.List.Sums.{fails_before_first}
+use Rattle.lines.specs.Cut.{CutAt, pieces, onto, is_nil}
 
--- no byte before index i is the separator
-abbrev pub Clear : ℕ → List ℕ → ℕ → Type 0
-Clear sep bs i = (k : ℕ) → k < i → get_or bs k 0 ≡ sep → ⊥
+onto_same : (b : ℕ) (ps : List (List ℕ)) → onto b ps ≡ onto_first b ps
+onto_same b [] = refl
+onto_same b (p ∷ ps) = refl
 
-pub whole_piece : (sep : ℕ) (bs : List ℕ) → Clear sep bs (length bs) → pieces sep bs ≡ bs ∷ []
-whole_piece sep [] clear = refl
-whole_piece sep (b ∷ bs) clear =
-    cond-false _ _ _ (ne_eqb b sep (clear 0 (omega arith)))
-    ∙ ap (onto b) (whole_piece sep bs (λ k h. clear (suc k) (omega arith)))
+-- the pieces are what the library's `split` gives
+pieces_split : (sep : ℕ) (bs : List ℕ) → pieces sep bs ≡ slice_split (λ b. b == sep) bs
+pieces_split sep [] = refl
+pieces_split sep (b ∷ bs) =
+    ap (λ ps. cond (b == sep) ([] ∷ ps) (onto b ps)) (pieces_split sep bs)
+    ∙ ap (λ ps. cond (b == sep) ([] ∷ slice_split (λ c. c == sep) bs) ps) (onto_same b (slice_split (λ c. c == sep) bs))
 
-pub first_piece : (sep : ℕ) (bs : List ℕ) (i : ℕ) → i < length bs → Clear sep bs i → get_or bs i 0 ≡ sep → pieces sep bs ≡ take i bs ∷ pieces sep (drop (suc i) bs)
-first_piece sep [] i h clear is = absurd (omega arith)
-first_piece sep (b ∷ bs) zero h clear is = cond-true _ _ _ (eq-eqb b sep is)
-first_piece sep (b ∷ bs) (suc i) h clear is =
-    cond-false _ _ _ (ne_eqb b sep (clear 0 (omega arith)))
-    ∙ ap (onto b) (first_piece sep bs i (omega arith) (λ k l. clear (suc k) (omega arith)) is)
+-- the first piece ends at the first separator
+cut_at : (sep : ℕ) (bs : List ℕ) → CutAt sep bs (position (λ b. b == sep) bs)
+cut_at sep bs =
+    let is_sep : ℕ → Bool = λ b. b == sep in
+    let n = position_or_len is_sep bs in
+    cond_both (ltb n (length bs)) (Some n) None (CutAt sep bs)
+    (λ yes. (ltb-true _ _ yes, rw sub-zero (rw take_rest (pieces_split sep bs ∙ slice_split_first is_sep bs 0 (ltb-true _ _ yes) ∙ ap (λ ps. take n bs ∷ ps) (sym (pieces_split sep (drop (n + 1) bs)))))))
+    (λ no. pieces_split sep bs ∙ slice_split_none is_sep bs (All-from_get_or (λ x. is_sep x ≡ false) bs 0 (λ k h. fails_before_first is_sep bs k 0 (let most = ltb-false _ _ no in omega (arith, most)))))
+
+-- the same at what a search answered
+pub cut_found : (sep : ℕ) (bs : List ℕ) (o : Option ℕ) → o ≡ position (λ b. b == sep) bs → CutAt sep bs o
+cut_found sep bs o is = subst (CutAt sep bs) (sym is) (cut_at sep bs)
 
 onto_some : (b : ℕ) (ps : List (List ℕ)) → is_nil (onto b ps) ≡ false
 onto_some b [] = refl

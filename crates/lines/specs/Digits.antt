@@ -1,5 +1,5 @@
 -- What the digits of a number, of a value and of a byte string say. Assumes nothing.
-use Rattle.std.specs.Prelude.{ℕ, ◌+◌, ◌-◌, ◌*◌, cond, List, [], ◌∷◌, length, Some, None, codes, Option, ◌==◌}
+use Rattle.std.specs.Prelude.{ℕ, ◌+◌, ◌-◌, ◌*◌, cond, List, [], ◌∷◌, length, Some, None, codes, nat_lt, Option, ◌==◌}
 use Rattle.std.specs.Option.{option_map}
 use Rattle.std.specs.Int.{is_in_range}
 use Rattle.std.specs.Str.{bytes_eq}
@@ -16,6 +16,10 @@ decimal_of b = cond (is_in_range 48 57 b) (Some (b - 48)) None
 -- an upper-case hexadecimal digit: the bytes 65 to 70 are `A` to `F`, 10 to 15
 abbrev pub digit_of : ℕ → Option ℕ
 digit_of b = cond (is_in_range 65 70 b) (Some (b - 65 + 10)) (decimal_of b)
+
+-- a digit of a base
+abbrev pub digit_in : ℕ → ℕ → Option ℕ
+digit_in base b = and_then (digit_of b) (λ d. cond (nat_lt d base) (Some d) None)
 
 -- the number that digits of a base, each read in one way, write after those of v
 abbrev pub numeral_of : ℕ → (ℕ → Option ℕ) → ℕ → List ℕ → Option ℕ

@@ -1,5 +1,6 @@
 -- The lines of a script, each by its words. Assumes nothing.
-use Rattle.std.specs.Prelude.{ℕ, cond, List, [], ◌∷◌, Some, None, codes, Option}
+use Rattle.std.specs.Prelude.{◌≡◌, ℕ, Result, cond, List, [], ◌∷◌, Some, None, codes, Option}
+use Rattle.std.specs.Result.{result_ok}
 use Rattle.std.specs.Str.{bytes_eq}
 use Rattle.lines.specs.declared.line.KindWord.{KindWord}
 use Rattle.lines.specs.declared.line.KindWord.TheVariants.{Setpoint, Step}
@@ -26,6 +27,10 @@ pub data LineRead : Type 0 where
 abbrev pub named : {A : Type 0} → List (List ℕ × A) → List ℕ → Option A
 named [] w = None
 named (e ∷ es) w = cond (bytes_eq e.0 w) (Some e.1) (named es w)
+
+-- the table has the result under the word, or nothing where there is an error
+abbrev pub NamedIn : {A E : Type 0} → List (List ℕ × A) → List ℕ → Result A E → Type 0
+NamedIn table w r = result_ok r ≡ named table w
 
 abbrev pub kinds : List (List ℕ × KindWord)
 kinds = (codes "setpoint", Setpoint) ∷ (codes "step", Step) ∷ []

@@ -1,28 +1,37 @@
 // Reads decimal numbers, hexadecimal values and hexadecimal byte strings.
-ghost use Rattle.std.specs.Prelude.{◌≡◌, ◌≤◌, length, IfOk, vec_items};
+ghost use Rattle.std.specs.Prelude.{◌≡◌, ◌<◌, ◌≤◌, ◌^◌, length, IfOk, IfSome, vec_items};
 ghost use Rattle.std.specs.Option.{option_map};
-ghost use Rattle.lines.specs.Digits.{byte_of, bytes_of, byte_string, decimal_of, decimals_of, digit_of, hexadecimals_of, number_of, value_of};
+ghost use Rattle.lines.specs.Digits.{byte_of, bytes_of, byte_string, digit_in, digit_of, number_of, numeral_of, value_of};
 
 use std::alloc::{AllocError, Global};
-
-// The value of a decimal digit.
-fn decimal(b: u8) -> Option<u8>
-    ensures { result ≡ decimal_of b }
-{
-    match b {
-        b'0'..=b'9' => Some(b - b'0'),
-        _ => None,
-    }
-}
 
 // The value of an upper-case hexadecimal digit.
 pub fn digit(b: u8) -> Option<u8>
     ensures { result ≡ digit_of b }
 {
     match b {
+        b'0'..=b'9' => Some(b - b'0'),
         b'A'..=b'F' => Some(b - b'A' + 10),
-        _ => decimal(b),
+        _ => None,
     }
+}
+
+// The number that digits of a base write, the most significant first.
+fn numeral<const BASE: u64>(digits: &[u8]) -> Option<u64>
+    requires some { 0 < BASE }
+    requires few { BASE ^ length digits.now ≤ 2 ^ 64 }
+    ensures value { result ≡ numeral_of BASE (digit_in BASE) 0 digits.now }
+    ensures fits { IfSome result (λ n. n < BASE ^ length digits.now) }
+{
+    let mut value = 0;
+    for b in digits {
+        let digit = u64::from(digit(*b)?);
+        if digit >= BASE {
+            return None;
+        }
+        value = BASE * value + digit;
+    }
+    Some(value)
 }
 
 // A number has 1 to 9 decimal digits.
@@ -32,41 +41,18 @@ pub fn number(word: &[u8]) -> Option<u32>
     if word.is_empty() || word.len() > 9 {
         return None;
     }
-    decimals(word)
+    let number = numeral::<10>(word)?;
+    Some(number as u32)
 }
 
-// The number of so few digits fits.
-fn decimals(digits: &[u8]) -> Option<u32>
-    requires { length digits.now ≤ 9 }
-    ensures { result ≡ decimals_of 0 digits.now }
-{
-    let mut value = 0;
-    for b in digits {
-        value = 10 * value + u32::from(decimal(*b)?);
-    }
-    Some(value)
-}
-
-// A value has 16 hexadecimal digits, the most significant first.
+// A value has 16 hexadecimal digits.
 pub fn value(word: &[u8]) -> Option<u64>
     ensures { result ≡ value_of word.now }
 {
     if word.len() != 16 {
         return None;
     }
-    hexadecimals(word)
-}
-
-// The value of so few digits fits.
-fn hexadecimals(digits: &[u8]) -> Option<u64>
-    requires { length digits.now ≤ 16 }
-    ensures { result ≡ hexadecimals_of 0 digits.now }
-{
-    let mut value = 0;
-    for b in digits {
-        value = 16 * value + u64::from(digit(*b)?);
-    }
-    Some(value)
+    numeral::<16>(word)
 }
 
 // A byte string has two digits for each byte, or is `-` where it has no bytes.

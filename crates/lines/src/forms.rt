@@ -62,8 +62,8 @@ fn item(mut words: Words<'_>) -> Option<Line>
 fn start(mut words: Words<'_>) -> Option<Line>
     ensures { option_map viewed result ≡ start_form (ahead words.entry) }
 {
-    let kind = words.kind()?;
-    let scheme = words.scheme()?;
+    let kind = words.parse()?;
+    let scheme = words.parse()?;
     words.end()?;
     Some(Line::Start { kind, scheme })
 }

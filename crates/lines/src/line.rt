@@ -1,5 +1,9 @@
+ghost use Rattle.lines.specs.Grammar.{NamedIn, kinds, schemes};
+
+use std::str::FromStr;
+
 // A line of a run script that was read.
-#[derive(Drop)]
+#[derive(Debug, Drop)]
 pub enum Line {
     Bench {
         n: u32,
@@ -49,14 +53,46 @@ pub enum Line {
     },
 }
 
-#[derive(Clone, Copy)]
+#[derive(Clone, Copy, Debug, PartialEq, Eq)]
 pub enum KindWord {
     Setpoint,
     Step,
 }
 
-#[derive(Clone, Copy)]
+#[derive(Clone, Copy, Debug, PartialEq, Eq)]
 pub enum SchemeWord {
     Ledger,
     Deck,
+}
+
+// A word that names no kind or scheme.
+#[derive(Clone, Copy, Debug, PartialEq, Eq)]
+pub struct UnknownWord;
+
+impl FromStr for KindWord {
+    type Err = UnknownWord;
+
+    ghost from_str_gives = { NamedIn kinds };
+
+    fn from_str(word: &str) -> Result<KindWord, UnknownWord> {
+        match word {
+            "setpoint" => Ok(KindWord::Setpoint),
+            "step" => Ok(KindWord::Step),
+            _ => Err(UnknownWord),
+        }
+    }
+}
+
+impl FromStr for SchemeWord {
+    type Err = UnknownWord;
+
+    ghost from_str_gives = { NamedIn schemes };
+
+    fn from_str(word: &str) -> Result<SchemeWord, UnknownWord> {
+        match word {
+            "ledger" => Ok(SchemeWord::Ledger),
+            "deck" => Ok(SchemeWord::Deck),
+            _ => Err(UnknownWord),
+        }
+    }
 }

@@ -1,7 +1,7 @@
 // Cuts bytes at a separator: a text into lines, a line into words.
-ghost use Rattle.std.specs.Prelude.{◌≡◌};
-ghost use Rattle.std.specs.Option.{option_map};
-ghost use Rattle.lines.specs.Cut.{CutAt, head, is_nil, pieces, tail};
+ghost use Rattle.std.specs.Prelude.{◌≡◌, ◌==◌, position};
+ghost use Rattle.std.specs.Iterator.{YieldsFirstRef, item_count};
+ghost use Rattle.lines.specs.Cut.{CutAt, is_nil, pieces};
 ghost use Rattle.lines.specs.Left.{left};
 
 // The pieces that are still to come. Bytes with k separators have k + 1 pieces.
@@ -22,31 +22,30 @@ impl<'a> Pieces<'a> {
         }
     }
 
-    // The next piece, None after the last.
-    pub fn next(&mut self) -> Option<&'a [u8]>
-        ensures value { option_map (λ x. x.now) result ≡ head (left self.old) }
-        ensures after { left self.new ≡ tail (left self.old) }
+    // Whether the last piece was given: no separator came after it.
+    #[tactic(auto, using(crate::proofs::Cutting::pieces_some))]
+    pub fn is_over(&self) -> bool
+        ensures { result ≡ is_nil (left self.now) }
     {
+        self.rest.is_none()
+    }
+}
+
+impl<'a> Iterator for Pieces<'a> {
+    type Item = &'a [u8];
+
+    ghost next_gives = { YieldsFirstRef left };
+
+    ghost remaining = { item_count left };
+
+    fn next(&mut self) -> Option<&'a [u8]> {
         let bytes = self.rest?;
         match find(bytes, self.separator) {
             Some(i) => {
                 self.rest = Some(&bytes[i + 1..]);
-                Some(&bytes[0..i])
+                Some(&bytes[..i])
             }
-            None => {
-                self.rest = None;
-                Some(bytes)
-            }
-        }
-    }
-
-    // Whether the last piece was given: no separator came after it.
-    pub fn is_over(&self) -> bool
-        ensures { result ≡ is_nil (left self.now) }
-    {
-        match self.rest {
-            Some(_) => false,
-            None => true,
+            None => self.rest.take(),
         }
     }
 }
@@ -55,10 +54,5 @@ impl<'a> Pieces<'a> {
 fn find(bytes: &[u8], separator: u8) -> Option<usize>
     ensures { CutAt separator bytes.now result }
 {
-    for (i, b) in bytes.iter().enumerate() {
-        if *b == separator {
-            return Some(i);
-        }
-    }
-    None
+    bytes.iter().position(|b| *b == separator)
 }

@@ -3,14 +3,12 @@ ghost use Rattle.std.specs.Prelude.{◌≡◌, is_some, IfOk, Some, vec_items, M
 ghost use Rattle.std.specs.Option.{option_map};
 ghost use Rattle.lines.specs.Cut.{head, is_nil, pieces, tail};
 ghost use Rattle.lines.specs.Digits.{and_then, byte_string, number_of, value_of};
-ghost use Rattle.lines.specs.Grammar.{kinds, named, schemes};
-ghost use Rattle.lines.specs.Left.{NoText, ahead};
+ghost use Rattle.lines.specs.Left.{NoText, Parsed, ahead};
 
 use crate::digits;
-use crate::line::{KindWord, SchemeWord};
 use crate::pieces::Pieces;
 use std::alloc::{AllocError, Global};
-use std::str::from_utf8;
+use std::str::{FromStr, from_utf8};
 
 // The words that are still to come. Each call takes one, also where it is of another form.
 #[derive(Drop)]
@@ -67,32 +65,20 @@ impl<'a> Words<'a> {
         }
     }
 
-    pub fn kind(&mut self) -> Option<KindWord>
-        ensures value { result ≡ and_then (head (ahead self.old)) (named kinds) }
+    // The next word as what its text names.
+    pub fn parse<T: FromStr>(&mut self) -> Option<T>
+    where
+        T::Err: Drop,
+        ensures value { Parsed T.from_str_gives (ahead self.old) result }
         ensures after { ahead self.new ≡ tail (ahead self.old) }
     {
-        match self.text()? {
-            "setpoint" => Some(KindWord::Setpoint),
-            "step" => Some(KindWord::Step),
-            _ => None,
-        }
-    }
-
-    pub fn scheme(&mut self) -> Option<SchemeWord>
-        ensures value { result ≡ and_then (head (ahead self.old)) (named schemes) }
-        ensures after { ahead self.new ≡ tail (ahead self.old) }
-    {
-        match self.text()? {
-            "ledger" => Some(SchemeWord::Ledger),
-            "deck" => Some(SchemeWord::Deck),
-            _ => None,
-        }
+        self.text()?.parse().ok()
     }
 
     // Some where no word is left.
     pub fn end(&self) -> Option<()>
         ensures { is_some result ≡ is_nil (ahead self.now) }
     {
-        if self.parts.is_over() { Some(()) } else { None }
+        self.parts.is_over().then_some(())
     }
 }

@@ -1,13 +1,11 @@
--- The first separator, and bytes that have none.
-use native.Mathlib.Nat.{sub-zero}
-use Rattle.std.proofs.Common.{add-one, arith}
-use Rattle.std.proofs.lemmas.List.{take_rest}
-use Rattle.lines.proofs.Cutting.{whole_piece, first_piece}
+-- The first separator, where `position` finds one.
+use Rattle.std.proofs.Common.{◌==◌, rules}
+use Rattle.std.proofs.lemmas.Iterator.{YieldsList-from_slice}
+use Rattle.std.proofs.lemmas.Iterator.Search.{position_from_yields_List}
+use Rattle.lines.proofs.Cutting.{cut_found}
 use Rattle.lines.proofs.pieces.find.Goals as goal
 
-pub returns-then-b-separator : goal.returns-then-b-separator
-returns-then-b-separator c =
-    (omega arith, simp (sub-zero, take_rest, add-one) (first_piece _ _ _ c.loop-i-test.true c.loop-i.invariant c.if-b-separator.true))
-
 pub returns : goal.returns
-returns c = whole_piece _ _ (λ k h. c.loop-i.invariant k (omega arith))
+returns c =
+    cut_found c.args.separator c.args.bytes.now c.position.result
+    (position_from_yields_List (λ b. b == c.args.separator) _ _ c.position.result c.position.ensures.ran (YieldsList-from_slice c.args.bytes.now c.iter.ensures.rest) (λ x b q k. search rules))
