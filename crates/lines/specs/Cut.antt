@@ -1,5 +1,5 @@
 -- What bytes are cut into. Assumes nothing.
-use Rattle.std.specs.Prelude.{◌≡◌, ℕ, ◌+◌, ◌<◌, Bool, true, false, cond, List, [], ◌∷◌, length, Some, None, Option, ◌==◌}
+use Rattle.std.specs.Prelude.{◌≡◌, ℕ, zero, suc, ◌+◌, ◌<◌, Bool, true, false, cond, List, [], ◌∷◌, length, Some, None, Option, ◌==◌}
 use Rattle.std.specs.List.{between}
 
 -- a byte before the first piece
@@ -29,6 +29,10 @@ head (p ∷ ps) = Some p
 abbrev pub tail : List (List ℕ) → List (List ℕ)
 tail [] = []
 tail (p ∷ ps) = ps
+
+abbrev pub tails : ℕ → List (List ℕ) → List (List ℕ)
+tails zero ps = ps
+tails (suc n) ps = tails n (tail ps)
 
 abbrev pub is_nil : List (List ℕ) → Bool
 is_nil [] = true

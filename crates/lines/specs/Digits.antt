@@ -1,8 +1,9 @@
 -- What the digits of a number, of a value and of a byte string say. Assumes nothing.
-use Rattle.std.specs.Prelude.{ℕ, ◌+◌, ◌-◌, ◌*◌, cond, List, [], ◌∷◌, length, Some, None, codes, nat_lt, Option, ◌==◌}
+use Rattle.std.specs.Prelude.{ℕ, zero, suc, ◌+◌, ◌-◌, ◌*◌, cond, List, [], ◌∷◌, length, Some, None, codes, nat_lt, Option, ◌==◌}
 use Rattle.std.specs.Option.{option_map}
 use Rattle.std.specs.Int.{is_in_range}
 use Rattle.std.specs.Str.{bytes_eq}
+use Rattle.lines.specs.Cut.{head, tail}
 
 -- what follows a value, none where there is no value
 abbrev pub and_then : {A B : Type 0} → Option A → (A → Option B) → Option B
@@ -35,6 +36,11 @@ hexadecimals_of = numeral_of 16 digit_of
 -- a number: 1 to 9 decimal digits
 abbrev pub number_of : List ℕ → Option ℕ
 number_of word = cond (is_in_range 1 9 (length word)) (decimals_of 0 word) None
+
+-- the first n words as numbers
+abbrev pub numbers_of : ℕ → List (List ℕ) → Option (List ℕ)
+numbers_of zero ws = Some []
+numbers_of (suc n) ws = and_then (and_then (head ws) number_of) (λ x. option_map (λ xs. x ∷ xs) (numbers_of n (tail ws)))
 
 -- a value: 16 upper-case hexadecimal digits, the most significant first
 abbrev pub value_of : List ℕ → Option ℕ

@@ -42,10 +42,7 @@ fn read_words(heap: Global, mut words: Words<'_>) -> Result<Option<Line>, AllocE
 fn bench(mut words: Words<'_>) -> Option<Line>
     ensures { option_map viewed result ≡ bench_form (ahead words.entry) }
 {
-    let n = words.number()?;
-    let f = words.number()?;
-    let d = words.number()?;
-    let e = words.number()?;
+    let [n, f, d, e] = words.numbers::<4>()?;
     words.end()?;
     Some(Line::Bench { n, f, d, e })
 }
@@ -53,8 +50,7 @@ fn bench(mut words: Words<'_>) -> Option<Line>
 fn item(mut words: Words<'_>) -> Option<Line>
     ensures { option_map viewed result ≡ item_form (ahead words.entry) }
 {
-    let sender = words.number()?;
-    let reading = words.number()?;
+    let [sender, reading] = words.numbers::<2>()?;
     words.end()?;
     Some(Line::Item { sender, reading })
 }
@@ -71,8 +67,7 @@ fn start(mut words: Words<'_>) -> Option<Line>
 fn set(mut words: Words<'_>) -> Option<Line>
     ensures { option_map viewed result ≡ set_form (ahead words.entry) }
 {
-    let processor = words.number()?;
-    let offset = words.number()?;
+    let [processor, offset] = words.numbers::<2>()?;
     words.end()?;
     Some(Line::Set { processor, offset })
 }
@@ -102,17 +97,13 @@ fn seal(heap: Global, mut words: Words<'_>) -> Result<Option<Line>, AllocError>
     let Some(text) = words.byte_string(heap)? else {
         return Ok(None);
     };
-    if words.end().is_none() {
-        return Ok(None);
-    }
-    Ok(Some(Line::Seal { processor, text }))
+    Ok(words.end().map(|()| Line::Seal { processor, text }))
 }
 
 fn open(mut words: Words<'_>) -> Option<Line>
     ensures { option_map viewed result ≡ open_form (ahead words.entry) }
 {
-    let processor = words.number()?;
-    let item = words.number()?;
+    let [processor, item] = words.numbers::<2>()?;
     let value = words.value()?;
     words.end()?;
     Some(Line::Open {
@@ -125,26 +116,20 @@ fn open(mut words: Words<'_>) -> Option<Line>
 fn inject(heap: Global, mut words: Words<'_>) -> Result<Option<Line>, AllocError>
     ensures { IfOk result (λ o. option_map viewed o ≡ inject_form (ahead words.entry)) }
 {
-    let Some(from) = words.number() else {
+    let Some(ends) = words.numbers::<2>() else {
         return Ok(None);
     };
-    let Some(to) = words.number() else {
-        return Ok(None);
-    };
+    let [from, to] = ends;
     let Some(bytes) = words.byte_string(heap)? else {
         return Ok(None);
     };
-    if words.end().is_none() {
-        return Ok(None);
-    }
-    Ok(Some(Line::Inject { from, to, bytes }))
+    Ok(words.end().map(|()| Line::Inject { from, to, bytes }))
 }
 
 fn deliver(mut words: Words<'_>) -> Option<Line>
     ensures { option_map viewed result ≡ deliver_form (ahead words.entry) }
 {
-    let flight = words.number()?;
-    let processor = words.number()?;
+    let [flight, processor] = words.numbers::<2>()?;
     words.end()?;
     Some(Line::Deliver { flight, processor })
 }
@@ -152,8 +137,7 @@ fn deliver(mut words: Words<'_>) -> Option<Line>
 fn decide(mut words: Words<'_>) -> Option<Line>
     ensures { option_map viewed result ≡ decide_form (ahead words.entry) }
 {
-    let processor = words.number()?;
-    let item = words.number()?;
+    let [processor, item] = words.numbers::<2>()?;
     words.end()?;
     Some(Line::Decide { processor, item })
 }

@@ -1,8 +1,8 @@
 // Reads the words of a line one by one.
-ghost use Rattle.std.specs.Prelude.{◌≡◌, is_some, IfOk, Some, vec_items, MatchOption};
+ghost use Rattle.std.specs.Prelude.{◌≡◌, is_some, true, IfOk, Some, vec_items, MatchOption};
 ghost use Rattle.std.specs.Option.{option_map};
-ghost use Rattle.lines.specs.Cut.{head, is_nil, pieces, tail};
-ghost use Rattle.lines.specs.Digits.{and_then, byte_string, number_of, value_of};
+ghost use Rattle.lines.specs.Cut.{head, is_nil, pieces, tail, tails};
+ghost use Rattle.lines.specs.Digits.{and_then, byte_string, number_of, numbers_of, value_of};
 ghost use Rattle.lines.specs.Left.{NoText, Parsed, ahead};
 
 use crate::digits;
@@ -46,6 +46,18 @@ impl<'a> Words<'a> {
         ensures after { ahead self.new ≡ tail (ahead self.old) }
     {
         digits::number(self.word()?)
+    }
+
+    // The next N words as numbers.
+    pub fn numbers<const N: usize>(&mut self) -> Option<[u32; N]>
+        ensures value { result ≡ numbers_of N (ahead self.old) }
+        ensures after { is_some result ≡ true → ahead self.new ≡ tails N (ahead self.old) }
+    {
+        let mut numbers = [0; N];
+        for n in numbers.iter_mut() {
+            *n = self.number()?;
+        }
+        Some(numbers)
     }
 
     pub fn value(&mut self) -> Option<u64>
