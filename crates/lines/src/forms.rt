@@ -1,6 +1,6 @@
 // Reads a line by its form, which its first word names.
 ghost use Rattle.std.specs.Prelude.{◌≡◌, IfOk};
-ghost use Rattle.std.specs.Option.{option_map};
+ghost use Rattle.std.specs.Option.{option_map, option_transpose};
 ghost use Rattle.lines.specs.Grammar.{advance_form, bench_form, decide_form, deliver_form, inject_form, item_form, line_form, open_form, read_line, seal_form, set_form, start_form, turn_form};
 ghost use Rattle.lines.specs.Left.{ahead};
 ghost use Rattle.lines.specs.Views.{viewed};
@@ -11,31 +11,29 @@ use std::alloc::{AllocError, Global};
 
 // Reads a line's bytes, without its newline. None where the line is unreadable: another first word,
 // a word too few or too many, or a word of another form.
+#[tactic(auto, unfolding(crate::specs::Grammar::read_line))]
 pub fn read(heap: Global, line: &[u8]) -> Result<Option<Line>, AllocError>
     ensures { IfOk result (λ o. option_map viewed o ≡ read_line line.now) }
 {
-    read_words(heap, Words::new(line))
+    read_words(heap, Words::new(line)).transpose()
 }
 
-fn read_words(heap: Global, mut words: Words<'_>) -> Result<Option<Line>, AllocError>
-    ensures { IfOk result (λ o. option_map viewed o ≡ line_form (ahead words.entry)) }
+fn read_words(heap: Global, mut words: Words<'_>) -> Option<Result<Line, AllocError>>
+    ensures { IfOk (option_transpose result) (λ o. option_map viewed o ≡ line_form (ahead words.entry)) }
 {
-    let Some(form) = words.text() else {
-        return Ok(None);
-    };
-    match form {
-        "bench" => Ok(bench(words)),
-        "item" => Ok(item(words)),
-        "start" => Ok(start(words)),
-        "set" => Ok(set(words)),
-        "turn" => Ok(turn(words)),
-        "advance" => Ok(advance(words)),
+    match words.text()? {
+        "bench" => bench(words).map(Ok),
+        "item" => item(words).map(Ok),
+        "start" => start(words).map(Ok),
+        "set" => set(words).map(Ok),
+        "turn" => turn(words).map(Ok),
+        "advance" => advance(words).map(Ok),
         "seal" => seal(heap, words),
-        "open" => Ok(open(words)),
+        "open" => open(words).map(Ok),
         "inject" => inject(heap, words),
-        "deliver" => Ok(deliver(words)),
-        "decide" => Ok(decide(words)),
-        _ => Ok(None),
+        "deliver" => deliver(words).map(Ok),
+        "decide" => decide(words).map(Ok),
+        _ => None,
     }
 }
 
@@ -88,16 +86,13 @@ fn advance(mut words: Words<'_>) -> Option<Line>
     Some(Line::Advance { ticks })
 }
 
-fn seal(heap: Global, mut words: Words<'_>) -> Result<Option<Line>, AllocError>
-    ensures { IfOk result (λ o. option_map viewed o ≡ seal_form (ahead words.entry)) }
+fn seal(heap: Global, mut words: Words<'_>) -> Option<Result<Line, AllocError>>
+    ensures { IfOk (option_transpose result) (λ o. option_map viewed o ≡ seal_form (ahead words.entry)) }
 {
-    let Some(processor) = words.number() else {
-        return Ok(None);
-    };
-    let Some(text) = words.byte_string(heap)? else {
-        return Ok(None);
-    };
-    Ok(words.end().map(|()| Line::Seal { processor, text }))
+    let processor = words.number()?;
+    let text = words.byte_string(heap)?;
+    words.end()?;
+    Some(text.map(|text| Line::Seal { processor, text }))
 }
 
 fn open(mut words: Words<'_>) -> Option<Line>
@@ -113,17 +108,13 @@ fn open(mut words: Words<'_>) -> Option<Line>
     })
 }
 
-fn inject(heap: Global, mut words: Words<'_>) -> Result<Option<Line>, AllocError>
-    ensures { IfOk result (λ o. option_map viewed o ≡ inject_form (ahead words.entry)) }
+fn inject(heap: Global, mut words: Words<'_>) -> Option<Result<Line, AllocError>>
+    ensures { IfOk (option_transpose result) (λ o. option_map viewed o ≡ inject_form (ahead words.entry)) }
 {
-    let Some(ends) = words.numbers::<2>() else {
-        return Ok(None);
-    };
-    let [from, to] = ends;
-    let Some(bytes) = words.byte_string(heap)? else {
-        return Ok(None);
-    };
-    Ok(words.end().map(|()| Line::Inject { from, to, bytes }))
+    let [from, to] = words.numbers::<2>()?;
+    let bytes = words.byte_string(heap)?;
+    words.end()?;
+    Some(bytes.map(|bytes| Line::Inject { from, to, bytes }))
 }
 
 fn deliver(mut words: Words<'_>) -> Option<Line>

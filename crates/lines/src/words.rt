@@ -1,6 +1,6 @@
 // Reads the words of a line one by one.
 ghost use Rattle.std.specs.Prelude.{◌≡◌, is_some, true, IfOk, Some, vec_items, MatchOption};
-ghost use Rattle.std.specs.Option.{option_map};
+ghost use Rattle.std.specs.Option.{option_map, option_transpose};
 ghost use Rattle.lines.specs.Cut.{head, is_nil, pieces, tail, tails};
 ghost use Rattle.lines.specs.Digits.{and_then, byte_string, number_of, numbers_of, value_of};
 ghost use Rattle.lines.specs.Left.{NoText, Parsed, ahead};
@@ -67,14 +67,11 @@ impl<'a> Words<'a> {
         digits::value(self.word()?)
     }
 
-    pub fn byte_string(&mut self, heap: Global) -> Result<Option<Vec<u8>>, AllocError>
-        ensures value { IfOk result (λ o. option_map vec_items o ≡ and_then (head (ahead self.old)) byte_string) }
+    pub fn byte_string(&mut self, heap: Global) -> Option<Result<Vec<u8>, AllocError>>
+        ensures value { IfOk (option_transpose result) (λ o. option_map vec_items o ≡ and_then (head (ahead self.old)) byte_string) }
         ensures after { ahead self.new ≡ tail (ahead self.old) }
     {
-        match self.word() {
-            Some(word) => digits::byte_string(heap, word),
-            None => Ok(None),
-        }
+        digits::byte_string(heap, self.word()?).transpose()
     }
 
     // The next word as what its text names.

@@ -1,5 +1,5 @@
 -- One word more.
-use Rattle.std.proofs.Common.{length-set, ◌∙◌, rules}
+use Rattle.std.proofs.Common.{length-set, ◌∙◌}
 use Rattle.lines.proofs.Reading.{one_number, one_tail}
 use Rattle.lines.proofs.words.Words.numbers.Goals as goal
 

@@ -1,5 +1,5 @@
 -- The words that are left give the numbers after those so far.
-use Rattle.std.proofs.Common.{◌≡◌, ℕ, ◌-◌, List, ◌++◌, length, take, Option}
+use Rattle.std.proofs.Common.{◌≡◌, ℕ, ◌-◌, List, ◌++◌, length, take}
 use Rattle.std.specs.Option.{option_map}
 use Rattle.lines.specs.Cut.{tails}
 use Rattle.lines.specs.Digits.{numbers_of}
