@@ -1,5 +1,5 @@
 -- What a script prints, line by line.
-use Rattle.std.specs.Prelude.{◌≡◌, ℕ, zero, suc, min, List, [], ◌∷◌, ◌++◌, length, Some, None, Ok, Err, codes, MatchBool, Option, Result, nat_lt}
+use Rattle.std.specs.Prelude.{◌≡◌, true, false, ℕ, zero, suc, min, List, [], ◌∷◌, ◌++◌, length, Some, None, Ok, Err, codes, MatchBool, Option, Result, nat_lt}
 use Rattle.refusals.specs.declared.refusal.Refusal.{Refusal}
 use Rattle.seals.specs.Meanings.{Meaning}
 use Rattle.seals.specs.Books.{fresh}
@@ -7,7 +7,7 @@ use Rattle.bench.specs.declared.report.Report.{Report}
 use Rattle.bench.specs.Model.{Model}
 use Rattle.bench.specs.Making.{made, refusal_in}
 use Rattle.bench.specs.Reports.{reports}
-use Rattle.lines.specs.Cut.{pieces}
+use Rattle.lines.specs.Cut.{pieces, tail, is_nil}
 use Rattle.lines.specs.Grammar.{read_line}
 use Rattle.kinds.specs.Codes.{is_setpoint, same_setpoint, is_step, same_step}
 use Rattle.lines.specs.declared.line.KindWord.{KindWord}
@@ -32,6 +32,16 @@ bad_line = codes "no 60\n"
 abbrev pub unended : List ℕ → List ℕ
 unended [] = []
 unended (b ∷ bs) = bad_line
+
+-- what stands after the last newline
+abbrev pub ending : List (List ℕ) → List ℕ
+ending [] = []
+ending (last ∷ more) = unended last
+
+-- a line is taken, which a newline ended; or there is none, and what stands there instead is answered
+abbrev pub Taken : Option (List ℕ) → List (List ℕ) → List (List ℕ) → List ℕ → List ℕ → Type 0
+Taken (Some line) ps qs out now = (ps ≡ line ∷ qs) × (is_nil qs ≡ false) × (now ≡ out)
+Taken None ps qs out now = (is_nil (tail ps) ≡ true) × (now ≡ out ++ ending ps)
 
 -- after a refused start every line is out of order
 abbrev pub out_of_order : List (List ℕ) → List ℕ

@@ -1,17 +1,17 @@
 // Plays a script.
 ghost use Rattle.std.specs.Prelude.{◌≡◌, ℕ, ◌+◌, ◌<◌, min, [], IfOk, string_bytes, slice_index, slice_index_or};
+ghost use Rattle.std.specs.Option.{option_map};
 ghost use Rattle.seals.specs.Books.{book_of, fresh};
 ghost use Rattle.bench.specs.Making.{made as making};
 ghost use Rattle.bench.specs.Model.{model_of};
 ghost use Rattle.lines.specs.Left.{left};
-ghost use Rattle.bench.specs.Reports.{reports};
-ghost use Rattle.script.specs.Transcript.{line_of, unended, out_of_order, report, fresh_scheme, values_of, Runs, Started, Opens, Transcript};
+ghost use Rattle.script.specs.Transcript.{Taken, unended, out_of_order, report, fresh_scheme, values_of, Runs, Started, Opens, Transcript};
 ghost use Rattle.script.specs.Calls.{values};
 ghost use Rattle.script.specs.Settings.{unset};
 
 use crate::answer::Answer;
 use crate::calls::call;
-use crate::printing::{answer_line, item_line};
+use crate::printing::ItemLine;
 use crate::setting::{Heard, Setting};
 use bench::Bench;
 use kinds::{Kind, Setpoint, Step};
@@ -20,6 +20,7 @@ use plans::{Appointment, Sizes};
 use refusals::Refusal;
 use seals::{Deck, Ledger, Scheme};
 use std::alloc::{AllocError, Global};
+use std::array;
 
 // The most bytes that a script has.
 const LONGEST: usize = 16_384;
@@ -31,43 +32,44 @@ fn unended(last: &[u8]) -> &'static str
     if last.is_empty() { "" } else { "no 60\n" }
 }
 
+// The next line, None after the last newline: what stands there is answered.
+fn next_line<'a>(lines: &mut Pieces<'a>, out: &mut String) -> Result<Option<&'a [u8]>, AllocError>
+    ensures { IfOk result (λ line. Taken (option_map (λ l. l.now) line) (left lines.old) (left lines.new) (string_bytes out.old) (string_bytes out.new)) }
+{
+    let Some(piece) = lines.next() else {
+        return Ok(None);
+    };
+    if !lines.is_over() {
+        return Ok(Some(piece));
+    }
+    out.push_str(unended(piece))?;
+    Ok(None)
+}
+
 // A refusal for every line that is left.
 fn refuse_rest(heap: Global, mut lines: Pieces<'_>) -> Result<String, AllocError>
     ensures { IfOk result (λ s. string_bytes s ≡ out_of_order (left lines.entry)) }
 {
     let mut out = String::new(heap);
-    while let Some(line) = lines.next() {
-        if lines.is_over() {
-            out.push_str(unended(line))?;
-        } else {
-            out.push_str("no 60\n")?;
-        }
+    while let Some(_) = next_line(&mut lines, &mut out)? {
+        out.push_str("no 60\n")?;
     }
     Ok(out)
 }
 
-// The line of an item, empty where it is not in the agenda.
-fn line_of<S: Scheme, K: Kind>(
-    heap: Global,
-    bench: &Bench<S, K>,
-    item: u32,
-) -> Result<String, AllocError>
-    ensures { IfOk result (λ s. string_bytes s ≡ line_of item (reports item (model_of S.Scheme.meaning bench.now).core)) }
-{
-    match bench.report(item) {
-        Ok(report) => item_line(heap, item, &report),
-        Err(_) => Ok(String::new(heap)),
-    }
-}
-
-// The report, a line for each item.
+// The report, a line for each item of the agenda.
 fn report<S: Scheme, K: Kind>(heap: Global, bench: &Bench<S, K>) -> Result<String, AllocError>
     ensures { IfOk result (λ s. string_bytes s ≡ report (model_of S.Scheme.meaning bench.now)) }
 {
     let mut out = String::new(heap);
-    for i in 0..8 {
-        let line = line_of(heap, bench, i + 1)?;
-        out.push_str(line.as_str())?;
+    for item in 1..9 {
+        if let Ok(report) = bench.report(item) {
+            let line = ItemLine {
+                item,
+                report: &report,
+            };
+            write!(out, "{line}")?;
+        }
     }
     Ok(out)
 }
@@ -81,14 +83,9 @@ fn run<S: Scheme + Drop, K: Kind + Drop>(
     ensures { IfOk result (λ s. Runs (values K.Kind.admitted K.Kind.same) (model_of S.Scheme.meaning bench) (left lines.entry) (string_bytes s)) }
 {
     let mut out = String::new(heap);
-    while let Some(line) = lines.next() {
-        if lines.is_over() {
-            out.push_str(unended(line))?;
-        } else {
-            let answer = call(&mut bench, lines::read(heap, line)?);
-            let said = answer_line(heap, answer)?;
-            out.push_str(said.as_str())?;
-        }
+    while let Some(line) = next_line(&mut lines, &mut out)? {
+        let answer = call(&mut bench, lines::read(heap, line)?);
+        write!(out, "{answer}")?;
     }
     let last = report(heap, &bench)?;
     out.push_str(last.as_str())?;
@@ -105,16 +102,12 @@ fn begin<S: Scheme + Drop, K: Kind + Drop>(
 {
     match bench.refusal() {
         None => {
-            let mut out = String::from_str(heap, "ok\n")?;
             let rest = run(heap, bench, lines)?;
-            out.push_str(rest.as_str())?;
-            Ok(out)
+            format!(in heap; "{}{rest}", Answer::Done)
         }
         Some(refusal) => {
-            let mut out = answer_line(heap, Answer::Refused(refusal))?;
             let rest = refuse_rest(heap, lines)?;
-            out.push_str(rest.as_str())?;
-            Ok(out)
+            format!(in heap; "{}{rest}", Answer::Refused(refusal))
         }
     }
 }
@@ -131,11 +124,7 @@ fn start_with<S: Scheme + Drop>(
     ensures { IfOk result (λ s. Started (values_of kind) (making sizes.n sizes.f sizes.d sizes.e agenda.now (S.Scheme.meaning scheme)) (left lines.entry) (string_bytes s)) }
 {
     match kind {
-        KindWord::Setpoint => begin(
-            heap,
-            Bench::new(sizes, agenda, scheme, Setpoint),
-            lines,
-        ),
+        KindWord::Setpoint => begin(heap, Bench::new(sizes, agenda, scheme, Setpoint), lines),
         KindWord::Step => begin(heap, Bench::new(sizes, agenda, scheme, Step), lines),
     }
 }
@@ -144,11 +133,7 @@ fn start_with<S: Scheme + Drop>(
 fn one_to_64() -> [u32; 64]
     ensures { (k : ℕ) → k < 64 → slice_index result k ≡ k + 1 }
 {
-    let mut seals = [0; 64];
-    for k in 0..64 {
-        seals[k] = k as u32 + 1;
-    }
-    seals
+    array::from_fn(|k| k as u32 + 1)
 }
 
 // A deck of which each signer is dealt the seals 1 to 64.
@@ -183,18 +168,14 @@ fn open(heap: Global, mut lines: Pieces<'_>) -> Result<String, AllocError>
 {
     let mut setting = Setting::new(heap);
     let mut out = String::new(heap);
-    while let Some(line) = lines.next() {
-        if lines.is_over() {
-            out.push_str(unended(line))?;
-        } else {
-            match setting.hear(lines::read(heap, line)?)? {
-                Heard::Kept => {}
-                Heard::OutOfOrder => out.push_str("no 60\n")?,
-                Heard::Start(sizes, kind, scheme) => {
-                    let rest = start(heap, sizes, setting.agenda.as_slice(), kind, scheme, lines)?;
-                    out.push_str(rest.as_str())?;
-                    return Ok(out);
-                }
+    while let Some(line) = next_line(&mut lines, &mut out)? {
+        match setting.hear(lines::read(heap, line)?)? {
+            Heard::Kept => {}
+            Heard::OutOfOrder => out.push_str("no 60\n")?,
+            Heard::Start(sizes, kind, scheme) => {
+                let rest = start(heap, sizes, setting.agenda.as_slice(), kind, scheme, lines)?;
+                out.push_str(rest.as_str())?;
+                return Ok(out);
             }
         }
     }

@@ -1,10 +1,5 @@
-use Rattle.std.proofs.Common.{◌<◌, ◌≢◌, length, ◌∙◌, arith, length-set, get_or-set_other, get_or-set_same, below_more}
+use Rattle.std.proofs.Common.{rules}
 use Rattle.script.proofs.player.one_to_64.Goals as goal
 
-pub loop-k-preserved : goal.loop-k-preserved
-loop-k-preserved c = (
-  length-set _ _ _ ∙ c.loop-k.invariant.0,
-  below_more _ _
-      (λ j h. let ne : j ≢ c.loop-k.k = omega arith in rw get_or-set_other (c.loop-k.invariant.1 j h))
-      (let lt : c.loop-k.k < length c.loop-k.seals = omega (arith, c.loop-k.invariant.0) in rw get_or-set_same),
-)
+pub returns : goal.returns
+returns c k below = let (p, q, called) = c.from_fn.ensures.items.at k 0 below in search rules

@@ -1,14 +1,18 @@
-use Rattle.std.proofs.Common.{◌++◌, sym, ap, ◌∙◌}
+use Rattle.std.proofs.Common.{◌≡◌, ◌++◌, ◌∙◌, ap, rules, string_bytes, sym}
 use Rattle.bench.specs.Model.{model_of}
-use Rattle.script.specs.Transcript.{item_lines}
-use Rattle.script.proofs.Turns.{lines_none, lines_more}
+use Rattle.bench.specs.Reports.{reports}
+use Rattle.script.specs.Transcript.{line_of}
+use Rattle.script.proofs.Turns.{lines_none, lines_next}
 use Rattle.script.proofs.player.report.Goals as goal
+use Rattle.script.proofs.player.report.Goals.{in-Ok+in_ok-write, in_default}
 
-pub loop-i-init : goal.loop-i-init
-loop-i-init g c = c.new-out.ensures.bytes ∙ sym (lines_none _)
+pub loop-item-init : goal.loop-item-init
+loop-item-init g c = c.new-out.ensures.bytes ∙ sym (lines_none _)
 
-pub loop-i-preserved : goal.loop-i-preserved
-loop-i-preserved g c =
+pub loop-item-preserved : goal.loop-item-preserved
+loop-item-preserved g c =
     let m = model_of g.S.Scheme.meaning c.args.bench.now in
-    let line = c.as_str.ensures.value ∙ c.in_ok-line.ensures in
-    c.in_ok-push_str.ensures.bytes ∙ ap (λ l. l ++ c.as_str.result.now) c.loop-i.invariant ∙ ap (λ l. item_lines m c.loop-i.i ++ l) line ∙ sym (lines_more m c.loop-i.i)
+    let i = c.loop-item.item in
+    let bytes : string_bytes c.match-report.out ≡ string_bytes c.loop-item.out ++ line_of i (reports i m.core)
+    = elim c.match-report.branch [ in-Ok+in_ok-write w ↦ search rules | in_default w ↦ search rules ] in
+    bytes ∙ ap (λ l. l ++ line_of i (reports i m.core)) c.loop-item.invariant ∙ sym (lines_next m i c.loop-item.auto.item)

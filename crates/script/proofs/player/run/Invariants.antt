@@ -5,9 +5,9 @@ use Rattle.script.specs.Calls.{values}
 use Rattle.script.specs.Transcript.{Runs}
 use Rattle.script.proofs.player.run.Given as goal
 
-abbrev pub invariant-loop-line : goal.invariant-loop-line
-invariant-loop-line g l =
+abbrev pub invariant-loop-out : goal.invariant-loop-out
+invariant-loop-out g l =
     (o : List ℕ) → Runs (values g.K.Kind.admitted g.K.Kind.same) (model_of g.S.Scheme.meaning l.bench) (left l.lines) o → Runs (values g.K.Kind.admitted g.K.Kind.same) (model_of g.S.Scheme.meaning l.initial.bench) (left l.initial.lines) (string_bytes l.out ++ o)
 
-abbrev pub decreases-loop-line : goal.decreases-loop-line
-decreases-loop-line g l = length (left l.lines)
+abbrev pub decreases-loop-out : goal.decreases-loop-out
+decreases-loop-out g l = length (left l.lines)
