@@ -3,16 +3,7 @@ use Rattle.std.proofs.Common.{◌≡◌, ℕ, ◌<◌, true, false, List, [], �
 use Rattle.std.proofs.lemmas.List.{append_assoc}
 use Rattle.std.proofs.lemmas.Bool.{true≢false, false≢true}
 use Rattle.lines.specs.Cut.{tail, is_nil}
-use Rattle.script.specs.Transcript.{bad_line, ending, out_of_order, unended}
-
--- what a text after the last newline answers
-pub unended_none : (bs : List ℕ) → length bs ≡ 0 → [] ≡ unended bs
-unended_none [] z = refl
-unended_none (b ∷ bs) z = absurd (omega arith)
-
-pub unended_some : (bs : List ℕ) → (length bs ≡ 0 → ⊥) → bad_line ≡ unended bs
-unended_some [] some = absurd (some refl)
-unended_some (b ∷ bs) some = refl
+use Rattle.script.specs.Transcript.{bad_line, ending, out_of_order}
 
 -- each line that is taken leaves fewer
 pub fewer_lines : (line : List ℕ) (ps qs : List (List ℕ)) → ps ≡ line ∷ qs → length qs < length ps

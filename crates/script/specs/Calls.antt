@@ -12,6 +12,11 @@ use Rattle.lines.specs.Grammar.{LineRead, bench_line, item_line, start_line, set
 use Rattle.script.specs.declared.answer.Answer.{Answer}
 use Rattle.script.specs.declared.answer.Answer.TheVariants.{Done, Number, Decided, Dropped, Refused}
 
+-- the answer of a call, or the refusal
+abbrev pub answer_or : Result Answer Refusal → Answer
+answer_or (Ok a) = a
+answer_or (Err r) = Refused r
+
 -- the answer of a call that gives nothing, and of one that gives a number
 abbrev pub done_or : Result Unit Refusal → Answer
 done_or (Ok u) = Done

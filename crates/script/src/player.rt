@@ -29,7 +29,10 @@ const LONGEST: usize = 16_384;
 fn unended(last: &[u8]) -> &'static str
     ensures { result.now ≡ unended last.now }
 {
-    if last.is_empty() { "" } else { "no 60\n" }
+    match last {
+        [] => "",
+        _ => "no 60\n",
+    }
 }
 
 // The next line, None after the last newline: what stands there is answered.
