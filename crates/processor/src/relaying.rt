@@ -6,7 +6,7 @@ ghost use Rattle.frames.specs.Texts.{text_for};
 ghost use Rattle.processor.specs.Relaying.{frame_of, own_links, own_numbers, relayed, sent};
 
 use crate::owed::Owed;
-use frames::{Link, link_text, write};
+use frames::{LONGEST_TEXT, Link, link_text, write};
 use refusals::Refusal;
 use seals::Scheme;
 
@@ -63,7 +63,8 @@ fn seal<S: Scheme>(owed: &Owed, numbers: &[u8], scheme: &mut S) -> Result<u32, R
     ensures answer { result ≡ answered (S.Scheme.meaning scheme.old) owed.now.own (text_for owed.now.item owed.now.value numbers.now) (given result) }
     ensures after { S.Scheme.meaning scheme.new ≡ signed (S.Scheme.meaning scheme.old) owed.now.own (text_for owed.now.item owed.now.value numbers.now) (given result) }
 {
-    let mut text = [0; 18];
+    // The longest text's room: no heap here.
+    let mut text = [0; LONGEST_TEXT];
     match link_text(owed.item, owed.value, numbers, &mut text) {
         Some(size) => scheme.sign(owed.own, &text[..size]),
         None => Err(Refusal::Frame),
