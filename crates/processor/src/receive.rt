@@ -2,7 +2,7 @@
 ghost use Rattle.std.specs.Prelude.{◌≡◌, ◌≤◌, OnOk};
 ghost use Rattle.frames.specs.Views.{fields_of};
 ghost use Rattle.plans.specs.Setups.{setup_of};
-ghost use Rattle.processor.specs.Receiving.{headed, entered, owes, arrived, received};
+ghost use Rattle.processor.specs.Receiving.{headed, owes, arrived, received};
 
 use crate::agenda::appointment;
 use crate::chains::chain_stands;
@@ -44,16 +44,8 @@ fn owed(plan: &Plan, frame: &Frame<'_>, own: u8) -> Option<Owed>
 }
 
 impl Part {
-    // Rows 40 to 42: the value joins the bag of the item.
-    fn enter<K: Kind>(&mut self, kind: &K, item: u8, value: u64) -> Result<(), Refusal>
-        requires low { 1 ≤ item }
-        requires high { item ≤ 8 }
-        ensures { (result, self.new) ≡ entered K.Kind.same tt item value self.old }
-    {
-        self.bags[item as usize - 1].join(kind, value)
-    }
-
     // Rows 31 to 42.
+    #[tactic(auto, using(crate::proofs::Entering::same_bag))]
     fn accept<S: Scheme, K: Kind>(
         &mut self,
         plan: &Plan,
@@ -67,7 +59,7 @@ impl Part {
         let appointment = head_stands(plan, kind, frame)?;
         chain_stands(plan, scheme, self.own, frame)?;
         in_time(plan, appointment.reading, frame.count(), reading)?;
-        self.enter(kind, frame.item(), frame.value())?;
+        self.bags[frame.item() as usize - 1].join(kind, frame.value())?;
         Ok(owed(plan, frame, self.own))
     }
 

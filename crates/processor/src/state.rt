@@ -19,7 +19,7 @@ impl Part {
     pub fn decision(&self, item: u32) -> Option<Decision>
         ensures { result ≡ record_of self.now item }
     {
-        if item < 1 || item > 8 {
+        if !(1..=8).contains(&item) {
             return None;
         }
         match self.bags[item as usize - 1] {
