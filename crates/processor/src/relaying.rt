@@ -34,55 +34,57 @@ pub fn forgo(owed: Owed)
     } = owed;
 }
 
-// The links so far, and then the own with its seal. An array with room behind them: no heap here.
-fn links(owed: &Owed, seal: u32) -> [Link; 7]
-    requires { owed.now.count ≤ 6 }
-    ensures { take (owed.now.count + 1) result ≡ own_links owed.now seal }
-{
-    let own = Link {
-        processor: owed.own,
-        seal,
-    };
-    let [a, b, c, d, e, f] = owed.links();
-    let mut links = [a, b, c, d, e, f, own];
-    links[owed.count as usize] = own;
-    links
-}
-
-// The numbers of these links.
-fn numbers(owed: &Owed) -> [u8; 7]
-    requires { owed.now.count ≤ 6 }
-    ensures { take (owed.now.count + 1) result ≡ own_numbers owed.now }
-{
-    links(owed, 0).map(|link| link.processor)
-}
-
-// Has the own link sealed, which is the last of the links. At most seven numbers always make a text.
-fn seal<S: Scheme>(owed: &Owed, numbers: &[u8], scheme: &mut S) -> Result<u32, Refusal>
-    requires { length numbers.now ≤ 8 }
-    ensures answer { result ≡ answered (S.Scheme.meaning scheme.old) owed.now.own (text_for owed.now.item owed.now.value numbers.now) (given result) }
-    ensures after { S.Scheme.meaning scheme.new ≡ signed (S.Scheme.meaning scheme.old) owed.now.own (text_for owed.now.item owed.now.value numbers.now) (given result) }
-{
-    // The longest text's room: no heap here.
-    let mut text = [0; LONGEST_TEXT];
-    match link_text(owed.item, owed.value, numbers, &mut text) {
-        Some(size) => scheme.sign(owed.own, &text[..size]),
-        None => Err(Refusal::Frame),
+impl Owed {
+    // The links so far, and then the own with its seal. An array with room behind them: no heap here.
+    fn own_links(&self, seal: u32) -> [Link; 7]
+        requires { self.now.count ≤ 6 }
+        ensures { take (self.now.count + 1) result ≡ own_links self.now seal }
+    {
+        let own = Link {
+            processor: self.own,
+            seal,
+        };
+        let [a, b, c, d, e, f] = self.links();
+        let mut links = [a, b, c, d, e, f, own];
+        links[self.count as usize] = own;
+        links
     }
-}
 
-// Seals and writes; row 30 for more than six links, after which nothing is owed.
-fn send<S: Scheme>(owed: &Owed, scheme: &mut S, out: &mut [u8; 45]) -> Result<usize, Refusal>
-    ensures { (z : ℕ) × ((result, S.Scheme.meaning scheme.new, out.new) ≡ sent z owed.now (S.Scheme.meaning scheme.old) out.old) × IfOk result (λ n. decode (take n out.new) ≡ Ok (frame_of owed.now z)) }
-{
-    if owed.count > 6 {
-        return Err(Refusal::Frame);
+    // The numbers of these links.
+    fn own_numbers(&self) -> [u8; 7]
+        requires { self.now.count ≤ 6 }
+        ensures { take (self.now.count + 1) result ≡ own_numbers self.now }
+    {
+        self.own_links(0).map(|link| link.processor)
     }
-    let count = owed.count as usize + 1;
-    let numbers = numbers(owed);
-    let seal = seal(owed, &numbers[..count], scheme)?;
-    let links = links(owed, seal);
-    write(out, owed.item, owed.value, &links[..count])
+
+    // Has the own link sealed, which is the last of these processors. At most eight numbers always make a text.
+    fn seal<S: Scheme>(&self, numbers: &[u8], scheme: &mut S) -> Result<u32, Refusal>
+        requires { length numbers.now ≤ 8 }
+        ensures answer { result ≡ answered (S.Scheme.meaning scheme.old) self.now.own (text_for self.now.item self.now.value numbers.now) (given result) }
+        ensures after { S.Scheme.meaning scheme.new ≡ signed (S.Scheme.meaning scheme.old) self.now.own (text_for self.now.item self.now.value numbers.now) (given result) }
+    {
+        // The longest text's room: no heap here.
+        let mut text = [0; LONGEST_TEXT];
+        match link_text(self.item, self.value, numbers, &mut text) {
+            Some(size) => scheme.sign(self.own, &text[..size]),
+            None => Err(Refusal::Frame),
+        }
+    }
+
+    // Seals and writes; row 30 for more than six links, after which nothing is owed.
+    fn send<S: Scheme>(&self, scheme: &mut S, out: &mut [u8; 45]) -> Result<usize, Refusal>
+        ensures { (z : ℕ) × ((result, S.Scheme.meaning scheme.new, out.new) ≡ sent z self.now (S.Scheme.meaning scheme.old) out.old) × IfOk result (λ n. decode (take n out.new) ≡ Ok (frame_of self.now z)) }
+    {
+        if self.count > 6 {
+            return Err(Refusal::Frame);
+        }
+        let count = self.count as usize + 1;
+        let numbers = self.own_numbers();
+        let seal = self.seal(&numbers[..count], scheme)?;
+        let links = self.own_links(seal);
+        write(out, self.item, self.value, &links[..count])
+    }
 }
 
 // Seals the broadcast, writes its frame to the front of the buffer and answers the frame's length.
@@ -90,7 +92,7 @@ fn send<S: Scheme>(owed: &Owed, scheme: &mut S, out: &mut [u8; 45]) -> Result<us
 pub fn relay<S: Scheme>(owed: Owed, scheme: &mut S, out: &mut [u8; 45]) -> Result<usize, Unsent>
     ensures { (z : ℕ) × ((result, S.Scheme.meaning scheme.new, out.new) ≡ relayed z owed (S.Scheme.meaning scheme.old) out.old) × IfOk result (λ n. decode (take n out.new) ≡ Ok (frame_of owed z)) }
 {
-    match send(&owed, scheme, out) {
+    match owed.send(scheme, out) {
         Ok(size) => {
             forgo(owed);
             Ok(size)
