@@ -103,7 +103,6 @@ impl<K: Kind> Processor<K> {
     pub fn decision(&self, item: u32) -> Result<Option<Decision>, Refusal>
         ensures { result ≡ recorded item (controller_of self.now) }
     {
-        let seat = self.seat?;
-        Ok(seat.part.decision(item))
+        self.seat.map(|seat| seat.part.decision(item))
     }
 }
