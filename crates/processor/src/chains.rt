@@ -72,6 +72,7 @@ fn is_sealed<S: Scheme>(scheme: &S, frame: &Frame<'_>, k: u8) -> bool
     let Some(link) = frame.link(k) else {
         return false;
     };
+    // The longest text's room: no heap here.
     let mut text = [0; LONGEST_TEXT];
     let Some(size) = frame.text(k, &mut text) else {
         return false;
