@@ -9,5 +9,5 @@ mod words;
 
 pub use digits::{byte_string, digit, number, value};
 pub use forms::read;
-pub use line::{KindWord, Line, SchemeWord};
+pub use line::{KindWord, Line, SchemeWord, UnknownWord};
 pub use pieces::Pieces;
