@@ -115,7 +115,7 @@ fn begin<S: Scheme + Drop, K: Kind + Drop>(
     }
 }
 
-// Starts a run of a kind.
+// Starts a run of a kind. Each arm is another type from here on.
 fn start_with<S: Scheme + Drop>(
     heap: Global,
     sizes: Sizes,
@@ -148,7 +148,7 @@ fn deck() -> Deck
     Deck::new(64, &[seals; 8])
 }
 
-// Starts a run with a fresh scheme.
+// Starts a run with a fresh scheme. Each arm is another type from here on.
 fn start(
     heap: Global,
     sizes: Sizes,

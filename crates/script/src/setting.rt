@@ -10,6 +10,7 @@ pub struct Setting {
 }
 
 // What a line does before the start.
+// Three cases by name: as a Result of an Option they would stand within the Result of memory.
 #[derive(Clone, Copy)]
 pub enum Heard {
     Kept,
