@@ -11,7 +11,7 @@ use Rattle.script.specs.declared.setting.Heard.{Heard}
 use Rattle.script.specs.Printing.{printed}
 use Rattle.script.specs.Settings.{Set, heard}
 use Rattle.script.specs.Calls.{Values, answered}
-use Rattle.script.specs.Transcript.{ending, line_of, item_lines, report, Runs, Heeds, Opens}
+use Rattle.script.specs.Transcript.{Prints, ending, line_of, item_lines, report, Runs, Heeds, Opens}
 
 -- the report of one item more
 pub lines_none : (m : Model) → item_lines m 0 ≡ []
@@ -29,11 +29,11 @@ lines_next m i h =
     ap (item_lines m) here ∙ lines_more m (i - 1) ∙ ap (λ k. item_lines m (i - 1) ++ line_of k (reports k m.core)) again
 
 -- Where what is printed from a on, after `out`, is printed from the start on, the same holds one line later.
-pub step : {A : Type 0} (R : A → List (List ℕ) → List ℕ → Type 0) {start a b : A} (all ps qs : List (List ℕ)) (out out' said : List ℕ)
-    → ((o : List ℕ) → R a ps o → R start all (out ++ o)) → out' ≡ out ++ said → ((o : List ℕ) → R b qs o → R a ps (said ++ o))
-    → (o : List ℕ) → R b qs o → R start all (out' ++ o)
-step R {start} {a} {b} all ps qs out out' said so_far pushed one o h =
-    subst (λ l. R start all l) (sym (append_assoc out said o) ∙ ap (λ l. l ++ o) (sym pushed)) (so_far (said ++ o) (one o h))
+pub step : {A : Type 0} (R : A → List (List ℕ) → List ℕ → Type 0) {start a b : A} (all ps qs : List (List ℕ)) (first out out' said : List ℕ)
+    → ((o : List ℕ) → R a ps o → Prints (R start all) first (out ++ o)) → out' ≡ out ++ said → ((o : List ℕ) → R b qs o → R a ps (said ++ o))
+    → (o : List ℕ) → R b qs o → Prints (R start all) first (out' ++ o)
+step R {start} {a} {b} all ps qs first out out' said so_far pushed one o h =
+    subst (λ l. Prints (R start all) first l) (sym (append_assoc out said o) ∙ ap (λ l. l ++ o) (sym pushed)) (so_far (said ++ o) (one o h))
 
 -- a line, whose answer is a, with some number for a new seal
 pub run_more : (v : Values) (m m' : Model) (line : List ℕ) (ps qs : List (List ℕ)) (a : Answer) → ps ≡ line ∷ qs → is_nil qs ≡ false

@@ -43,6 +43,10 @@ abbrev pub Taken : Option (List ℕ) → List (List ℕ) → List (List ℕ) →
 Taken (Some line) ps qs out now = (ps ≡ line ∷ qs) × (is_nil qs ≡ false) × (now ≡ out)
 Taken None ps qs out now = (is_nil (tail ps) ≡ true) × (now ≡ out ++ ending ps)
 
+-- what is printed from here on
+abbrev pub Prints : (List ℕ → Type 0) → List ℕ → List ℕ → Type 0
+Prints P out now = (said : List ℕ) × (now ≡ out ++ said) × P said
+
 -- after a refused start every line is out of order
 abbrev pub out_of_order : List (List ℕ) → List ℕ
 out_of_order [] = []
