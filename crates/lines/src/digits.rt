@@ -17,6 +17,7 @@ pub fn digit(b: u8) -> Option<u8>
 }
 
 // The number that digits of a base write, the most significant first.
+#[tactic(auto, using(crate::proofs::Reading::room_for_digit))]
 fn numeral<const BASE: u64>(digits: &[u8]) -> Option<u64>
     requires some { 0 < BASE }
     requires few { BASE ^ length digits.now ≤ 2 ^ 64 }
