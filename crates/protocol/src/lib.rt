@@ -6,15 +6,11 @@ ghost use Rattle.protocol.specs.Example.{Happens};
 
 // After any list of calls no two decisions of an item differ, each is as a correct sender would have it, and a correct
 // processor has room for every broadcast.
-pub fn agreement_stands() -> u8
+pub fn agreement_stands()
     ensures { Agreement }
-{
-    0
-}
+{}
 
 // The moves can be made: one run, to its decisions.
-pub fn example_happens() -> u8
+pub fn example_happens()
     ensures { Happens }
-{
-    0
-}
+{}
