@@ -1,6 +1,6 @@
 // A broadcast under way: the frame that its author sent at `time`, in the first `length` bytes.
 // goals[q] says that it is still on its way to processor q + 1.
-#[derive(Clone, Copy)]
+#[derive(Clone, Copy, Debug, PartialEq, Eq)]
 pub struct Flight {
     pub item: u8,
     pub author: u8,

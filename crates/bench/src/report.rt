@@ -10,7 +10,7 @@ use refusals::Refusal;
 use seals::Scheme;
 
 // An item's broadcasts, and the decisions recorded so far by the n processors; that of processor p is at p - 1.
-#[derive(Clone, Copy)]
+#[derive(Clone, Copy, Debug, PartialEq, Eq)]
 pub struct Report {
     pub n: u8,
     pub broadcasts: usize,

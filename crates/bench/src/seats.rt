@@ -10,7 +10,7 @@ use processor::{Decision, Part};
 use std::marker::Model;
 
 // The offset of the processor's clock, whether it has turned faulty, and its part.
-#[derive(Clone, Copy)]
+#[derive(Clone, Copy, Debug, PartialEq, Eq)]
 pub struct Seat {
     pub offset: u32,
     pub turned: bool,

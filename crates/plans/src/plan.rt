@@ -19,7 +19,7 @@ pub struct Appointment {
 }
 
 // Sizes and an agenda that passed their tests. The items are the first `count` of the eight places.
-#[derive(Clone, Copy)]
+#[derive(Clone, Copy, Debug, PartialEq, Eq)]
 pub struct Plan {
     pub n: u8,
     pub f: u8,

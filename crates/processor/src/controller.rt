@@ -13,7 +13,7 @@ use refusals::Refusal;
 use seals::Scheme;
 
 // A part, and the plan that it keeps to.
-#[derive(Clone, Copy)]
+#[derive(Clone, Copy, Debug, PartialEq, Eq)]
 struct Seat {
     plan: Plan,
     part: Part,
