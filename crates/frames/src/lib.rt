@@ -2,6 +2,7 @@
 #![tactic(auto)]
 
 mod frame;
+mod frames;
 mod link;
 mod reader;
 mod texts;
