@@ -1,3 +1,4 @@
+pub mod Receiving
 pub mod Digits
 pub mod Pieces
 pub mod Turns

@@ -7,7 +7,7 @@ use processor::Decision;
 use refusals::Refusal;
 use std::fmt;
 
-#[derive(Clone, Copy)]
+#[derive(Clone, Copy, Debug, PartialEq, Eq)]
 pub enum Answer {
     Done,
     Number(u32),

@@ -11,7 +11,7 @@ pub struct Setting {
 
 // What a line does before the start.
 // Three cases by name: as a Result of an Option they would stand within the Result of memory.
-#[derive(Clone, Copy)]
+#[derive(Clone, Copy, Debug, PartialEq, Eq)]
 pub enum Heard {
     Kept,
     OutOfOrder,
