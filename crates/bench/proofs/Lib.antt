@@ -2,7 +2,6 @@ mod Changing
 mod Mapping
 mod Wanting
 pub mod Decidings
-pub mod Landings
 pub mod Lists
 pub mod Weights
 pub mod Worlds

@@ -18,12 +18,6 @@ loop-p-preserved g c =
     let here : p + 1 - 1 ≡ p = omega arith in
     (rw here (all_next p k m _ _ c.loop-p.auto.p c.decide_items.ensures c.loop-p.invariant.0), omega arith)
 
-pub returns : goal.returns
-returns g c =
-    let m = model_of g.S.Scheme.meaning c.args.self.now in
-    let all : c.loop-p.p - 1 ≡ c.args.plan.now.n = omega (arith, c.loop-p.invariant.1, c.loop-p-test.false) in
-    c.loop-p.invariant.0 ∙ ap (λ p. on_core m (decides_all p (length c.agenda.result.now) m.core)) all ∙ ap (λ a. on_core m (decides_all c.args.plan.now.n (length a) m.core)) c.agenda.ensures
-
 pub returns-2 : goal.returns-2
 returns-2 g c =
     let m = model_of g.S.Scheme.meaning c.args.self.now in

@@ -16,12 +16,6 @@ loop-item-preserved g c =
     let here : c.loop-item.item + 1 - 1 ≡ c.loop-item.item = omega arith in
     (rw here (items_next c.args.p c.loop-item.item m _ _ _ c.loop-item.auto.item c.decide.ensures c.loop-item.invariant.0), omega arith)
 
-pub returns : goal.returns
-returns g c =
-    let m = model_of g.S.Scheme.meaning c.args.self.now in
-    let all : c.loop-item.item - 1 ≡ c.args.items = omega (arith, c.loop-item.invariant.1, c.loop-item-test.false) in
-    c.loop-item.invariant.0 ∙ ap (λ k. on_core m (decides_items c.args.p k m.core)) all
-
 pub returns-2 : goal.returns-2
 returns-2 g c =
     let m = model_of g.S.Scheme.meaning c.args.self.now in

@@ -2,18 +2,18 @@ use Rattle.std.proofs.Common.{rules}
 use Rattle.bench.specs.Flights.{receives}
 use Rattle.bench.proofs.state.Bench.receive.Goals as goal
 
-pub returns-in_err-receive : goal.returns-in_err-receive
+pub returns-in_err-receive-clause-is : goal.returns-in_err-receive-clause-is
 unfolding receives
-returns-in_err-receive g c = record { grows = search rules; is = (0, search rules) }
+returns-in_err-receive-clause-is g c = (0, search rules)
 
-pub returns-in_err-flight-in-Some : goal.returns-in_err-flight-in-Some
+pub returns-in_err-flight-in-Some-clause-is : goal.returns-in_err-flight-in-Some-clause-is
 unfolding receives
-returns-in_err-flight-in-Some g c = record { grows = c.launch.ensures.grows; is = (c.launch.ensures.is.0, search rules) }
+returns-in_err-flight-in-Some-clause-is g c = (c.launch.ensures.is.0, search rules)
 
-pub returns-in-None : goal.returns-in-None
+pub returns-in-None-clause-is : goal.returns-in-None-clause-is
 unfolding receives
-returns-in-None g c = record { grows = search rules; is = (0, search rules) }
+returns-in-None-clause-is g c = (0, search rules)
 
-pub returns-in_ok-flight-in-Some : goal.returns-in_ok-flight-in-Some
+pub returns-in_ok-flight-in-Some-clause-is : goal.returns-in_ok-flight-in-Some-clause-is
 unfolding receives
-returns-in_ok-flight-in-Some g c = record { grows = c.launch.ensures.grows; is = (c.launch.ensures.is.0, search rules) }
+returns-in_ok-flight-in-Some-clause-is g c = (c.launch.ensures.is.0, search rules)

@@ -9,11 +9,9 @@ use Rattle.refusals.proofs.Firsts.{first_position, first_within}
 use Rattle.bench.specs.Calls.{is_late, no_flight}
 use Rattle.bench.proofs.state.Inner.overdue.Goals as goal
 
-pub returns : goal.returns
-returns c =
+pub returns-clause-is : goal.returns-clause-is
+returns-clause-is c =
     let flights = c.args.self.now.flights in
     let late = is_late (setup_of c.args.plan.now) c.args.self.now.seats.turned c.args.t in
     let chain : c.position.result ≡ position late flights = position_from_yields_List late _ _ _ c.position.ensures.ran (YieldsList-from_slice flights (cc)) (λ x b q k. search (rules, tests)) in
-    let is = chain ∙ first_position late flights no_flight in
-    let few : length flights ≤ 120 = rw c.as_slice-flights.ensures.flights at c.as_slice-flights.ensures.few in
-    record { is = is; within = subst (λ o. IfSome o (λ i. i < 120)) (sym is) (first_within _ _ 120 few) }
+    chain ∙ first_position late flights no_flight
