@@ -3,13 +3,6 @@ use Rattle.std.proofs.Common.{◌≡◌, ℕ, zero, suc, ◌+◌, ◌<◌, ◌�
 use Rattle.std.proofs.lemmas.List.{take_more}
 use Rattle.bench.specs.Calls.{count_true}
 
-count_append : (xs ys : List Bool) → count_true (xs ++ ys) ≡ count_true xs + count_true ys
-count_append [] ys = omega arith
-count_append (x ∷ xs) ys = let h = count_append xs ys in omega arith
-
-pub count_more : (xs : List Bool) (i : ℕ) → i < length xs → count_true (take (i + 1) xs) ≡ count_true (take i xs) + cond (get_or xs i false) 1 0
-count_more xs i h = rw (take_more xs i false h) (let e = count_append (take i xs) (get_or xs i false ∷ []) in omega arith)
-
 pub count_le : (xs : List Bool) → count_true xs ≤ length xs
 count_le [] = omega arith
 count_le (true ∷ xs) = let h = count_le xs in omega arith
