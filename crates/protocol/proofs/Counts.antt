@@ -2,11 +2,11 @@
 use Rattle.std.proofs.Common.{◌≡◌, ℕ, zero, suc, ◌+◌, ◌*◌, ◌<◌, ◌≤◌, Bool, true, false, cond, ◌&&◌, eqb, ◌⊎◌, List, [], sym, refl, ap, ◌∙◌, subst, inl, inr, arith}
 use mathlib.Core.Bool.{and-false, and_comm}
 use native.Mathlib.Decide.{ℕ_discrete}
-use Rattle.std.proofs.lemmas.Bool.{eqb-true, eq-eqb, ne_eqb, cases_Bool}
+use Rattle.std.proofs.lemmas.Bool.{eqb-true, eq-eqb, ne_eqb, cases_Bool, false≢true}
 use Rattle.protocol.specs.Model.{Plan, State, Bag, empty, one, two, closed, Flight, fly, item_of, author_of, Seat, fresh, put}
 use Rattle.protocol.specs.Moves.{SameBags, OldFlights, OtherBags, Takes, Broadcasts, Move, ticks, sets, turns, forges, opens, relays, keeps, drops, decides, Start, Runs, stay, more}
 use Rattle.protocol.specs.Agreement.{Reached, tally, broadcasts, broadcasts_of, flights_of, Few, Within}
-use Rattle.protocol.proofs.Words.{In, true_false, in_not, began_in}
+use Rattle.protocol.proofs.Words.{In, in_not, began_in}
 use Rattle.protocol.proofs.Invariants.{Inv}
 use Rattle.protocol.proofs.Theorem.{good_reached}
 
@@ -17,7 +17,7 @@ bit_small : (b : Bool) → bit b ≤ 1
 bit_small true = omega arith
 bit_small false = omega arith
 
-tally_same : (b c : ℕ → Bool) (n : ℕ) → ((m : ℕ) → m < n → b m ≡ c m) → tally b n ≡ tally c n
+pub tally_same : (b c : ℕ → Bool) (n : ℕ) → ((m : ℕ) → m < n → b m ≡ c m) → tally b n ≡ tally c n
 tally_same b c zero h = refl
 tally_same b c (suc n) h =
     let e = h n (omega arith) in
@@ -97,8 +97,8 @@ weight_put (closed r) v = omega arith
 weight_join : (P : Plan) (b : Bag) (v : ℕ) → fresh P b v ≡ true → weight (put b v) ≡ suc (weight b)
 weight_join P empty v h = refl
 weight_join P (one w) v h = refl
-weight_join P (two u w) v h = true_false false h refl
-weight_join P (closed r) v h = true_false false h refl
+weight_join P (two u w) v h = absurd (false≢true h)
+weight_join P (closed r) v h = absurd (false≢true h)
 
 record Weighed (P : Plan) (x : State) : Type 0 where
   each : (i a : ℕ) → broadcasts_of x i a ≤ weight (x.bag a i)

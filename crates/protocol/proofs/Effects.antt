@@ -2,10 +2,9 @@
 use Rattle.std.proofs.Common.{◌≡◌, ℕ, suc, ◌+◌, ◌*◌, ◌<◌, ◌≤◌, Bool, true, false, cond, not, ◌&&◌, ◌||◌, eqb, leb, ◌⊎◌, List, [], ◌∷◌, length, sym, refl, ◌∙◌, inl, inr, arith}
 use Rattle.std.specs.Str.{bytes_eq}
 use Rattle.std.proofs.lemmas.Slice.Eq.{bytes_eq-Decides}
-use Rattle.std.proofs.lemmas.Bool.{eqb-true, eq-eqb, ne_eqb, leb-true, le-leb, not-true, not_from_false, and_from, and_parts, and_left, and_right, or_left, or_right, or_cases, cond-true, cond-false}
+use Rattle.std.proofs.lemmas.Bool.{eqb-true, eq-eqb, ne_eqb, leb-true, le-leb, not-true, not_from_false, and_from, and_parts, and_left, and_right, or_left, or_right, or_cases, cond-true, cond-false, both_ways}
 use Rattle.protocol.specs.Model.{Plan, State, Bag, empty, closed, fly, Seat, Listed, NotIn, put, verdict, is_closed, reading, Acceptable}
 use Rattle.protocol.specs.Moves.{OldWays, Ticks, Takes, Broadcasts, Calm, Opens, Relays, Drops, Decides}
-use Rattle.protocol.proofs.Words.{true_false}
 
 -- a table with one entry changed
 abbrev at : {A : Type 0} → ℕ → ℕ → A → (ℕ → ℕ → A) → ℕ → ℕ → A
@@ -26,7 +25,7 @@ absent_not : (q : ℕ) (l : List ℕ) → absent q l ≡ true → NotIn q l
 absent_not q [] h = tt
 absent_not q (a ∷ l) h =
     let k = and_parts (not (eqb q a)) (absent q l) h in
-    (λ e. true_false (eqb q a) (eq-eqb q a e) (not-true (eqb q a) k.0), absent_not q l k.1)
+    (λ e. absurd (both_ways (eqb q a) (not-true (eqb q a) k.0) (eq-eqb q a e)), absent_not q l k.1)
 
 not_absent : (q : ℕ) (l : List ℕ) → NotIn q l → absent q l ≡ true
 not_absent q [] h = refl

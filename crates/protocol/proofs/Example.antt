@@ -1,4 +1,5 @@
 -- The example's run, move by move.
+use Rattle.std.proofs.lemmas.Bool.{both_ways}
 use Rattle.std.proofs.Common.{◌≡◌, ℕ, ◌+◌, ◌<◌, ◌≤◌, true, false, List, [], ◌∷◌, sym, refl, subst, arith, lit<, lit≤}
 use native.Mathlib.Decide.{ℕ_discrete}
 use Rattle.protocol.specs.Model.{State, empty, closed, fly, Seat, Listed, fresh, verdict, Acceptable}
@@ -6,7 +7,6 @@ use Rattle.protocol.specs.Moves.{Start, Ticks, Opens, Relays, Drops, Decides, ti
 use Rattle.protocol.specs.Calls.{begin, next, opening, inside, Inside, rest, further}
 use Rattle.protocol.specs.Agreement.{Made}
 use Rattle.protocol.specs.Example.{plan, Happens}
-use Rattle.protocol.proofs.Words.{true_false}
 use Rattle.protocol.proofs.Theorem.{good_reached}
 use Rattle.protocol.proofs.Called.{made_reached}
 use Rattle.protocol.proofs.Effects.{after_ticks, after_send, after_bag, after_drops, can_tick, can_open, can_relay, can_drop, can_decide}
@@ -80,7 +80,7 @@ stale x m p t l a e f j w h b u k A =
     let e₁ : j ≡ 1 = cc in
     let e₂ : w ≡ 7 = cc in
     let g = A.joins in
-    true_false (fresh plan (x.bag p 1) 7) (rw (e₁, e₂) at g) f
+    absurd (both_ways (fresh plan (x.bag p 1) 7) f (rw (e₁, e₂) at g))
 
 m4 : Drops plan 0 2 s3 s4
 m4 = can_drop plan s3 0 2 refl (lit< tt) (stale s3 0 2 100 [] 1 refl refl)
@@ -123,7 +123,7 @@ m9 = can_tick plan s8 14 none
     none : (m q i v : ℕ) (l : List ℕ) (a t : ℕ) → m < 3 → s8.flight m ≡ fly i v l a t → s8.turned a ≡ false → s8.turned q ≡ false → s8.way m q ≡ true → s8.now + 14 < t + 5
     none m q i v l a t h e ca cq w =
         let k = ((good_reached plan i s8 (made_reached plan s8 made8)).inv.aimed m v l a t q (h, e) w).0 in
-        true_false (s8.way m q) w (landed m q h k.0 k.1)
+        absurd (both_ways (s8.way m q) (landed m q h k.0 k.1) w)
 
 m10 : Decides plan 1 1 s9 s10
 m10 = can_decide plan s9 1 1 seat_one refl item_one_is refl (lit≤ tt)

@@ -1,9 +1,10 @@
 -- What holds of an item in every reached state, and why the two kinds of step keep it: a Pass, in which the item gains no value, and a Gain, in which one correct processor takes one.
+use Rattle.std.proofs.lemmas.Bool.{false≢true}
 use Rattle.std.proofs.Common.{◌≡◌, ℕ, suc, ◌+◌, ◌*◌, ◌<◌, ◌≤◌, true, false, ◌⊎◌, List, ◌∷◌, length, sym, refl, ap, ◌∙◌, subst, inl, inr, arith}
 use native.Mathlib.Decide.{ℕ_discrete}
 use Rattle.protocol.specs.Model.{Plan, State, Bag, Verdict, empty, one, two, closed, fly, Seat, Listed, Seats, NotIn, Distinct, Began, Chain, fresh, put, verdict}
 use Rattle.protocol.specs.Moves.{SameTurned}
-use Rattle.protocol.proofs.Words.{In, Holds, Covered, Sane, NonEmpty, true_false, in_or_not, chain_up, chain_in, covered_put, covered_stays, holds_put, sane_put, filled}
+use Rattle.protocol.proofs.Words.{In, Holds, Covered, Sane, NonEmpty, in_or_not, chain_up, chain_in, covered_put, covered_stays, holds_put, sane_put, filled}
 
 -- of the clocks and the turned
 pub record Ground (P : Plan) (x : State) : Type 0 where
@@ -285,8 +286,8 @@ module _ (P : Plan) (i : ℕ) (x y : State) (I : Inv P i x) where
     put_open : {A : Type 0} (b : Bag) (r : Verdict) → fresh P b v ≡ true → put b v ≡ closed r → A
     put_open empty r f e = let z : ◌≡◌ {A = ℕ} 0 1 = cc in absurd (omega arith)
     put_open (one w) r f e = let z : ◌≡◌ {A = ℕ} 0 1 = cc in absurd (omega arith)
-    put_open (two w u) r f e = true_false false f refl
-    put_open (closed k) r f e = true_false false f refl
+    put_open (two w u) r f e = absurd (false≢true f)
+    put_open (closed k) r f e = absurd (false≢true f)
 
     gain_late : (q : ℕ) (r : Verdict) → y.bag q i ≡ closed r → Seat P q × Late P i y
     gain_late q r h = go (ℕ_discrete q p)

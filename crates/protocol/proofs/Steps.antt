@@ -1,9 +1,10 @@
 -- Each move is, for each item, a Pass or a Gain; and once decisions may stand, nothing is gained any more.
+use Rattle.std.proofs.lemmas.Bool.{both_ways, false_from_ne_true}
 use Rattle.std.proofs.Common.{◌≡◌, ℕ, suc, ◌+◌, ◌<◌, ◌≤◌, true, false, ◌⊎◌, List, [], ◌∷◌, length, sym, ap, ◌∙◌, subst, inl, inr, mul-le-mul_right, arith}
 use native.Mathlib.Decide.{ℕ_discrete, dec_le, dec_lt}
 use Rattle.protocol.specs.Model.{Plan, State, Verdict, empty, closed, Seat, Seats, Distinct, Chain, fresh, Acceptable}
 use Rattle.protocol.specs.Moves.{SameOffsets, SameTurned, OldFlights, OldWays, Ticks, Sets, Turns, Forges, Takes, Broadcasts, Calm, Opens, Relays, Keeps, Drops, Decides, Move, ticks, sets, turns, forges, opens, relays, keeps, drops, decides, Start}
-use Rattle.protocol.proofs.Words.{In, Holds, Covered, Sane, NonEmpty, true_false, else_false, in_not, pick, chain_up, chain_in, began_in, began_more, seats_in, covered_stale, covered_old, filled}
+use Rattle.protocol.proofs.Words.{In, Holds, Covered, Sane, NonEmpty, in_not, pick, chain_up, chain_in, began_in, began_more, seats_in, covered_stale, covered_old, filled}
 use Rattle.protocol.proofs.Invariants.{Ground, Late, Flown, Lawful, relayed, ended, Inv, Ends, Pass, New, Gain}
 
 -- the clocks and the turned
@@ -63,7 +64,7 @@ ground_start P x s = record {
   ts = [];
   many = sym s.faults;
   few = omega arith;
-  bad = λ p h. true_false (x.turned p) h (s.turns p);
+  bad = λ p h. absurd (both_ways (x.turned p) (s.turns p) h);
 }
 
 pub inv_start : (P : Plan) (i : ℕ) (x : State) → Start P x → Inv P i x
@@ -72,7 +73,7 @@ inv_start P i x s = record {
   due = λ m v l a t q φ c k w. absurd (none m φ.0);
   aimed = λ m v l a t q φ w. absurd (none m φ.0);
   cover = λ m v l a t q φ c k w. absurd (none m φ.0);
-  sign = λ a v l sa c h. true_false (x.sealed a i v l) h (s.seals a i v l sa);
+  sign = λ a v l sa c h. absurd (both_ways (x.sealed a i v l) (s.seals a i v l sa) h);
   held = λ q v c h. absurd (subst (λ b. Holds b v) (s.bags q i) h);
   sane = λ q. subst (Sane P) (sym (s.bags q i)) tt;
   late = λ q r h. clash r (sym (s.bags q i) ∙ h);
@@ -119,7 +120,7 @@ module _ (P : Plan) (i : ℕ) (x : State) (g : Ground P x) (I : Inv P i x) where
 
   -- a frame of a correct author, come in time, passes unless its value need not join
   timely : (m v : ℕ) (l : List ℕ) (a t q : ℕ) → Flown x i m v l a t → x.turned a ≡ false → x.turned q ≡ false → x.way m q ≡ true → ¬ (Acceptable P x q i v (a ∷ l)) → Covered P (x.bag q i) v
-  timely m v l a t q φ ca cq w no_way = covered_stale P (x.bag q i) v (else_false (fresh P (x.bag q i) v) (λ h. no_way (passes h)))
+  timely m v l a t q φ ca cq w no_way = covered_stale P (x.bag q i) v (false_from_ne_true (fresh P (x.bag q i) v) (λ h. no_way (passes h)))
     where
       passes : fresh P (x.bag q i) v ≡ true → Acceptable P x q i v (a ∷ l)
       passes h =
@@ -201,7 +202,7 @@ module _ (P : Plan) (i : ℕ) (x : State) (g : Ground P x) (I : Inv P i x) where
         honest' q h = go (ℕ_discrete q p)
           where
             go : Dec (q ≡ p) → x.turned q ≡ false
-            go (yes e) = true_false (y.turned p) s.here (ap y.turned (sym e) ∙ h)
+            go (yes e) = absurd (both_ways (y.turned p) (ap y.turned (sym e) ∙ h) s.here)
             go (no e) = sym (s.there q e) ∙ h
 
     pass_forges : (p : ℕ) → Forges P p x y → Pass P i x y
@@ -229,7 +230,7 @@ module _ (P : Plan) (i : ℕ) (x : State) (g : Ground P x) (I : Inv P i x) where
         down' a v l ca h = go (ℕ_discrete a p)
           where
             go : Dec (a ≡ p) → x.sealed a i v l ≡ true
-            go (yes e) = true_false (x.turned p) s.bad (ap x.turned (sym e) ∙ sym (s.turns a) ∙ ca)
+            go (yes e) = absurd (both_ways (x.turned p) (ap x.turned (sym e) ∙ sym (s.turns a) ∙ ca) s.bad)
             go (no e) = sym (s.there a i v l e) ∙ h
 
     pass_drops : (m p : ℕ) → Drops P m p x y → Pass P i x y
@@ -261,7 +262,7 @@ module _ (P : Plan) (i : ℕ) (x : State) (g : Ground P x) (I : Inv P i x) where
         ways' m' q z = go (split m' q)
           where
             go : ((m' ≡ m) × (q ≡ p)) ⊎ (y.way m' q ≡ x.way m' q) → x.way m' q ≡ true
-            go (inl e) = let h = e.0 in let k = e.1 in let r = s.here in true_false (y.way m' q) z (cc)
+            go (inl e) = let h = e.0 in let k = e.1 in let r = s.here in absurd (both_ways (y.way m' q) (cc) z)
             go (inr e) = sym e ∙ z
 
         lost' : (m' v : ℕ) (l : List ℕ) (a t q : ℕ) → Flown x i m' v l a t → y.turned a ≡ false → y.turned q ≡ false → Seat P q → x.way m' q ≡ true → (y.way m' q ≡ true) ⊎ Covered P (x.bag q i) v

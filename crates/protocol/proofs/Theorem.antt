@@ -1,10 +1,11 @@
 -- Agreement, of every run.
+use Rattle.std.proofs.lemmas.Bool.{false≢true, true≢false, both_ways, false_from_ne_true}
 use Rattle.std.proofs.Common.{◌≡◌, ℕ, ◌+◌, ◌*◌, true, false, ◌⊎◌, [], ◌∷◌, sym, refl, ap, ◌∙◌, inl, inr, arith}
 use native.Mathlib.Decide.{ℕ_discrete, dec_le}
 use Rattle.protocol.specs.Model.{Plan, State, Bag, Verdict, empty, one, two, closed, default, chosen, Seat, fresh, verdict, is_closed, Agree}
 use Rattle.protocol.specs.Moves.{Move, Start, Runs, stay, more}
 use Rattle.protocol.specs.Agreement.{Reached, Decided, Opened, Faithful}
-use Rattle.protocol.proofs.Words.{Holds, Covered, Sane, true_false, else_false, chain_first, alike}
+use Rattle.protocol.proofs.Words.{Holds, Covered, Sane, chain_first, alike}
 use Rattle.protocol.proofs.Invariants.{Ground, Late, Backed, relayed, ended, Inv, Ends, Pass, Gain, pass_keeps, gain_keeps}
 use Rattle.protocol.proofs.Steps.{ground_step, ground_start, inv_start, reach, reach_many, kind}
 
@@ -19,9 +20,9 @@ pub record Good (P : Plan) (i : ℕ) (x : State) : Type 0 where
   pub valid : Late P i x → x.turned (P.sender i) ≡ false → (p : ℕ) → Seat P p → Stands x i p → Faithful P x i (verdict (x.bag p i))
 
 closed_is : (b : Bag) → is_closed b ≡ true → (r : Verdict) × (b ≡ closed r)
-closed_is empty h = true_false false h refl
-closed_is (one v) h = true_false false h refl
-closed_is (two v w) h = true_false false h refl
+closed_is empty h = absurd (false≢true h)
+closed_is (one v) h = absurd (false≢true h)
+closed_is (two v w) h = absurd (false≢true h)
 closed_is (closed r) h = (r, refl)
 
 -- a bag that holds nothing but v, and need not gain it
@@ -32,14 +33,14 @@ just P (two w u) v k s c h =
     let a = h w (inl refl) in
     let b = h u (inr refl) in
     let r = P.same_refl w s.0 in
-    true_false (P.same w u) (ap (λ (z : ℕ). P.same w z) (b ∙ sym a) ∙ r) s.2
-just P (closed r) v k s c h = true_false true refl k
+    absurd (both_ways (P.same w u) s.2 (ap (λ (z : ℕ). P.same w z) (b ∙ sym a) ∙ r))
+just P (closed r) v k s c h = absurd (true≢false k)
 
 nothing : (b : Bag) → is_closed b ≡ false → ((u : ℕ) → Holds b u → ⊥) → verdict b ≡ default
 nothing empty k h = refl
 nothing (one w) k h = absurd (h w refl)
 nothing (two w u) k h = absurd (h w (inl refl))
-nothing (closed r) k h = true_false true refl k
+nothing (closed r) k h = absurd (true≢false k)
 
 module _ (P : Plan) (i : ℕ) (x : State) (g : Ground P x) (I : Inv P i x) (late : Late P i x) where
   -- what one correct processor holds has come to every other
@@ -95,7 +96,7 @@ module _ (P : Plan) (i : ℕ) (x y : State) (G : Good P i x) where
   -- the state at which decisions begin to be possible: none stands yet
   module _ (g : Ground P y) (I : Inv P i y) (early : ¬ (Late P i x)) (late : Late P i y) (s : Pass P i x y) where
     unclosed : (p : ℕ) → is_closed (y.bag p i) ≡ false
-    unclosed p = else_false (is_closed (y.bag p i)) (λ h. go (s.bags p) (closed_is (y.bag p i) h))
+    unclosed p = false_from_ne_true (is_closed (y.bag p i)) (λ h. go (s.bags p) (closed_is (y.bag p i) h))
       where
         go : (y.bag p i ≡ x.bag p i) ⊎ Ends P i x y p → (r : Verdict) × (y.bag p i ≡ closed r) → ⊥
         go (inl e) r = early (G.inv.late p r.0 (sym e ∙ r.1)).1
@@ -103,7 +104,7 @@ module _ (P : Plan) (i : ℕ) (x y : State) (G : Good P i x) where
 
     standing : (p : ℕ) → Stands y i p → y.turned p ≡ false
     standing p (inl c) = c
-    standing p (inr c) = true_false true refl (sym (ap is_closed c.1) ∙ unclosed p)
+    standing p (inr c) = absurd (true≢false (sym (ap is_closed c.1) ∙ unclosed p))
 
     dawn : Good P i y
     dawn = record {
@@ -217,7 +218,7 @@ stays P i x y G m = go (kind P i x G.ground G.inv y m)
       where
         kept : (q : ℕ) (r : Verdict) → Decided x q i r → Dec (q ≡ s.0) → Decided y q i r
         kept q r h (no e) = s.2.there q e ∙ h
-        kept q r h (yes e) = true_false false (sym (ap (λ (b : Bag). fresh P b s.1) (ap (λ (z : ℕ). x.bag z i) (sym e) ∙ h)) ∙ s.2.joins) refl
+        kept q r h (yes e) = absurd (false≢true (sym (ap (λ (b : Bag). fresh P b s.1) (ap (λ (z : ℕ). x.bag z i) (sym e) ∙ h)) ∙ s.2.joins))
 
 pub stays_run : (P : Plan) (i : ℕ) (x z : State) → Good P i x → Runs P x z → ((p : ℕ) (r : Verdict) → Decided x p i r → Decided z p i r) × ((p : ℕ) → z.turned p ≡ false → x.turned p ≡ false)
 stays_run P i x z G stay = (λ p r h. h, λ p h. h)

@@ -1,19 +1,12 @@
 -- Lemmas on the words of the model: lists of numbers, chains of seals, bags.
 use Rattle.std.proofs.Common.{◌≡◌, ℕ, suc, ◌<◌, ◌≤◌, Bool, true, false, ◌⊎◌, List, [], ◌∷◌, length, sym, refl, ap, ◌∙◌, subst, inl, inr, arith}
 use native.Mathlib.Decide.{ℕ_discrete}
-use Rattle.std.proofs.lemmas.Bool.{both_ways, cases_Bool, not-true, not-false}
+use Rattle.std.proofs.lemmas.Bool.{both_ways, cases_Bool, not-true, not-false, false≢true, true≢false}
 use Rattle.protocol.specs.Model.{Plan, State, Bag, empty, one, two, closed, Seat, Seats, NotIn, Distinct, Began, Chain, fresh, put, verdict, is_closed, Agree}
 
 abbrev pub In : ℕ → List ℕ → Type 0
 In q [] = ⊥
 In q (a ∷ l) = (q ≡ a) ⊎ In q l
-
-pub true_false : {A : Type 0} (b : Bool) → b ≡ true → b ≡ false → A
-true_false b p q = absurd (both_ways b q p)
-
-pub else_false : (b : Bool) → ¬ (b ≡ true) → b ≡ false
-else_false true h = absurd (h refl)
-else_false false h = refl
 
 pub in_or_not : (q : ℕ) (l : List ℕ) → In q l ⊎ NotIn q l
 in_or_not q [] = inr tt
@@ -157,16 +150,16 @@ covered_stays P (two w z) v u h = tt
 covered_stays P (closed r) v u h = tt
 
 pub covered_stale : (P : Plan) (b : Bag) (v : ℕ) → fresh P b v ≡ false → Covered P b v
-covered_stale P empty v h = true_false (fresh P empty v) refl h
+covered_stale P empty v h = absurd (both_ways (fresh P empty v) h refl)
 covered_stale P (one w) v h = not-false (P.same w v) h
 covered_stale P (two w u) v h = tt
 covered_stale P (closed r) v h = tt
 
 pub covered_old : {A : Type 0} (P : Plan) (b : Bag) (v : ℕ) → Covered P b v → fresh P b v ≡ true → A
 covered_old P empty v c h = absurd c
-covered_old P (one w) v c h = true_false (P.same w v) c (not-true (P.same w v) h)
-covered_old P (two w u) v c h = true_false false h refl
-covered_old P (closed r) v c h = true_false false h refl
+covered_old P (one w) v c h = absurd (both_ways (P.same w v) (not-true (P.same w v) h) c)
+covered_old P (two w u) v c h = absurd (false≢true h)
+covered_old P (closed r) v c h = absurd (false≢true h)
 
 pub holds_put : (P : Plan) (b : Bag) (v u : ℕ) → fresh P b v ≡ true → Holds (put b v) u → Holds b u ⊎ (v ≡ u)
 holds_put P empty v u f h = inr h
@@ -192,18 +185,18 @@ pub alike : (P : Plan) (b c : Bag) → is_closed b ≡ false → is_closed c ≡
 alike P empty empty k₁ k₂ s t f g = tt
 alike P empty (one w) k₁ k₂ s t f g = g w refl
 alike P empty (two w z) k₁ k₂ s t f g = tt
-alike P empty (closed r) k₁ k₂ s t f g = true_false true refl k₂
+alike P empty (closed r) k₁ k₂ s t f g = absurd (true≢false k₂)
 alike P (one v) empty k₁ k₂ s t f g = f v refl
 alike P (one v) (one w) k₁ k₂ s t f g = g w refl
 alike P (one v) (two w z) k₁ k₂ s t f g =
-    true_false (P.same w z) (P.same_trans w v z t.0 s t.1 (P.same_sym v w s t.0 (g w (inl refl))) (g z (inr refl))) t.2
-alike P (one v) (closed r) k₁ k₂ s t f g = true_false true refl k₂
+    absurd (both_ways (P.same w z) t.2 (P.same_trans w v z t.0 s t.1 (P.same_sym v w s t.0 (g w (inl refl))) (g z (inr refl))))
+alike P (one v) (closed r) k₁ k₂ s t f g = absurd (true≢false k₂)
 alike P (two v u) empty k₁ k₂ s t f g = tt
 alike P (two v u) (one w) k₁ k₂ s t f g =
-    true_false (P.same v u) (P.same_trans v w u s.0 t s.1 (P.same_sym w v t s.0 (f v (inl refl))) (f u (inr refl))) s.2
+    absurd (both_ways (P.same v u) s.2 (P.same_trans v w u s.0 t s.1 (P.same_sym w v t s.0 (f v (inl refl))) (f u (inr refl))))
 alike P (two v u) (two w z) k₁ k₂ s t f g = tt
-alike P (two v u) (closed r) k₁ k₂ s t f g = true_false true refl k₂
-alike P (closed q) empty k₁ k₂ s t f g = true_false true refl k₁
-alike P (closed q) (one w) k₁ k₂ s t f g = true_false true refl k₁
-alike P (closed q) (two w z) k₁ k₂ s t f g = true_false true refl k₁
-alike P (closed q) (closed r) k₁ k₂ s t f g = true_false true refl k₁
+alike P (two v u) (closed r) k₁ k₂ s t f g = absurd (true≢false k₂)
+alike P (closed q) empty k₁ k₂ s t f g = absurd (true≢false k₁)
+alike P (closed q) (one w) k₁ k₂ s t f g = absurd (true≢false k₁)
+alike P (closed q) (two w z) k₁ k₂ s t f g = absurd (true≢false k₁)
+alike P (closed q) (closed r) k₁ k₂ s t f g = absurd (true≢false k₁)
