@@ -14,12 +14,12 @@ use Rattle.protocol.specs.Model.{Flight, fly, author_of, Acceptable}
 use Rattle.protocol.specs.Moves.{Takes, Drops, drops, keeps, relays}
 use Rattle.protocol.specs.Calls.{Inside, rest, further}
 use Rattle.protocol.specs.Agreement.{Made, tally, flights_of}
+use Rattle.protocol.proofs.Counts.{tally_same}
 use Rattle.protocol.proofs.Traces.{stale}
 use Rattle.bench.proofs.Worlds.{World, plan_of, entry_of, newest_first}
 use Rattle.bench.proofs.View.{older, fields_in, flight_shown, flight_of, view, Flying, Sound, SealsFit}
 use Rattle.frames.proofs.Fitting.{Read, decode_is}
 use Rattle.bench.proofs.Rebagging.{entry_other}
-use Rattle.bench.proofs.Launching.{tally_same}
 use Rattle.bench.proofs.Receiving as Came
 use Rattle.bench.proofs.Receiving.{Receipt, receive_tied}
 

@@ -3,7 +3,7 @@ use Rattle.std.proofs.Common.{◌≡◌, ℕ, zero, suc, ◌+◌, ◌^◌, ◌<�
 use mathlib.Core.List.{reverse-cons}
 use native.Mathlib.Decide.{ℕ_discrete}
 use Rattle.std.specs.List.{flat_map}
-use Rattle.std.proofs.lemmas.List.{reverse-reverse, map_push, length_push, length-append, take_at, get_or_append_left, get_or_push}
+use Rattle.std.proofs.lemmas.List.{reverse-reverse, map_push, length_push, length-append, take_at, get_or_append_left, get_or_push, reverse-append}
 use Rattle.std.proofs.ByRecursion.{All-push}
 use Rattle.std.proofs.lemmas.Bool.{eq-eqb, and_parts, and_from, leb-true, le-leb, lt-ltb, cond-true, or_parts, or_from, not_from_false, not-true, cases_lt, eqb-false, ne_eqb, both_ways, ltb-true}
 use Rattle.seals.specs.Meanings.{Triple, Meaning, holds, answered, signed, left_of}
@@ -26,13 +26,14 @@ use Rattle.bench.specs.Flights.{with_part, on_core, goes_to, goals_for, flight_f
 use Rattle.protocol.specs.Model.{fly, author_of, Seat, NotIn}
 use Rattle.protocol.specs.Moves.{Broadcasts, OldWays}
 use Rattle.protocol.specs.Agreement.{tally, flights_of}
+use Rattle.protocol.proofs.Counts.{tally_same}
 use Rattle.bench.proofs.Worlds.{World, plan_of, entry_of, has_sealed, newest_first}
 use Rattle.bench.proofs.View.{older, fields_in, flight_shown, flight_of, view, Flying, Sound, flying_more, SealsFit}
 use Rattle.frames.proofs.Fitting.{Read, decode_is}
 use Rattle.seals.proofs.Signing.{has, has_more, holds_has, holds_small, signed_grows, signed_holds, signed_only, signed_left, signed_room}
 use Rattle.frames.proofs.Texting.{text_same}
 use Rattle.processor.proofs.Sealing.{link_by, sealed_more, sealed_push}
-use Rattle.bench.proofs.Naming.{reverse_push, not_in_newest, newest_not_in, links_owed}
+use Rattle.bench.proofs.Naming.{not_in_newest, newest_not_in, links_owed}
 
 -- the frame that goes out after some links
 abbrev pub longer : ℕ → ℕ → ℕ → List Link → ℕ → Fields
@@ -74,7 +75,7 @@ launch_is W m q i v ls z seal part few room given =
 
 module _ (i v own : ℕ) (ls : List Link) (few : length ls ≤ 6) where
   numbers_longer : (s : ℕ) → newest_first (longer i v own ls s) ≡ own ∷ reverse (numbers_of ls)
-  numbers_longer s = ap reverse (map_push (λ (l : Link). l.processor) ls (link_by own s)) ∙ reverse_push (numbers_of ls) own
+  numbers_longer s = ap reverse (map_push (λ (l : Link). l.processor) ls (link_by own s)) ∙ reverse-append (numbers_of ls) (own ∷ [])
 
   pub own_text_is : own_text (owed_for i v own ls) ≡ text_for i v (reverse (own ∷ reverse (numbers_of ls)))
   own_text_is =
@@ -111,14 +112,6 @@ module _ (i v own : ℕ) (ls : List Link) (few : length ls ≤ 6) where
     sent_shown =
         ap (λ (f : Fields). fly i f.value (older (newest_first f)) own t) sent_fields
         ∙ ap (λ (l : List ℕ). fly i v (older l) own t) (numbers_longer s)
-
--- tallies go by what is counted
-pub tally_same : (b c : ℕ → Bool) (n : ℕ) → ((k : ℕ) → k < n → b k ≡ c k) → tally b n ≡ tally c n
-tally_same b c zero h = refl
-tally_same b c (suc n) h =
-    let here = h n (omega arith) in
-    let rest = tally_same b c n (λ k l. h k (omega arith)) in
-    (λ i. cond (here i) 1 0 + rest i)
 
 -- the goals of a broadcast are the processors that it does not name
 

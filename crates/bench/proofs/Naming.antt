@@ -8,9 +8,6 @@ use Rattle.processor.specs.Broadcasts.{owed_for, links_in}
 use Rattle.processor.specs.Naming.{is_in}
 use Rattle.protocol.specs.Model.{NotIn}
 
-pub reverse_push : (l : List ℕ) (a : ℕ) → reverse (l ++ a ∷ []) ≡ a ∷ reverse l
-reverse_push l a = reverse-append l (a ∷ [])
-
 not_in_append : (p : ℕ) (xs ys : List ℕ) → NotIn p xs → NotIn p ys → NotIn p (xs ++ ys)
 not_in_append p [] ys h k = k
 not_in_append p (x ∷ xs) ys h k = (h.0, not_in_append p xs ys h.1 k)

@@ -1,4 +1,5 @@
 -- Every call of a bench is moves of the protocol.
+use Rattle.std.proofs.lemmas.Option.{none-some}
 use Rattle.std.proofs.Common.{◌≡◌, ℕ, ◌+◌, true, ltb, leb, ◌⊎◌, set, Some, None, Ok, Err, Option, Result, sym, refl, ◌∙◌, subst, inl, inr, arith}
 use Rattle.refusals.specs.declared.refusal.Refusal.{Refusal}
 use Rattle.refusals.specs.declared.refusal.Refusal.TheVariants.{Item, Spare, Offset, End, Due, Wait}
@@ -33,9 +34,6 @@ use Rattle.bench.proofs.Refusing.{unaltered}
 use Rattle.bench.proofs.Settled.{settle_tied, settle_granted}
 use Rattle.bench.proofs.Promising.{StepIn, StepTied, Short}
 
-some_none : {A : Type 0} (r : Refusal) → ◌≡◌ {A = Option Refusal} (Some r) None → A
-some_none r h = let z : ◌≡◌ {A = ℕ} 0 1 = cc in absurd (omega arith)
-
 -- the calls that neither open nor turn
 abbrev Quiet : Call → Type 0
 Quiet (open_call p i v) = ⊥
@@ -65,7 +63,7 @@ module _ (W : World) where
   refused_tied k l c e S M st = go (left_same c e k)
     where
       refused : Sound W l → Inside (plan_of W) (view k) (view l) → Sound W l × Tied W c (Some e) k l
-      refused T I = (T, quiet (λ p i v x h. some_none e h) (λ p x h. some_none e h) I)
+      refused T I = (T, quiet (λ p i v x h. absurd (none-some e (sym h))) (λ p x h. absurd (none-some e (sym h))) I)
 
       go : (left_by c e k ≡ k) ⊎ ((f : ℕ) × (p : ℕ) × (c ≡ deliver_call f p)) → Sound W l × Tied W c (Some e) k l
       go (inl same) =
@@ -184,4 +182,4 @@ module _ (W : World) where
   short k l (deliver_call f p) r S M st no-seal =
       (deliver_tied W k S M st.does.0 f p _ l (left_is _ (Some r) l st.does.1) st.tidy.seals).2 r (refused_is _ r l st.does.1)
   short k l (decide_call p i) r S M st no-seal = decides_low W k S p i r (refused_is (lifted (decides p i) k) r l st.does)
-  short k l settle_call r S M st no-seal = some_none r (settle_granted W k l (Some r) S M st).0
+  short k l settle_call r S M st no-seal = absurd (none-some r (sym (settle_granted W k l (Some r) S M st).0))

@@ -1,5 +1,7 @@
 -- Each delivery leaves less to deliver.
 use Rattle.std.proofs.Common.{◌≡◌, ℕ, zero, suc, ◌+◌, ◌-◌, ◌*◌, ◌<◌, ◌≤◌, Bool, true, false, ltb, List, [], ◌∷◌, ◌++◌, length, get_or, take, set, replicate, Some, None, Ok, Err, Option, Result, sym, refl, ap, ◌∙◌, subst, arith, length-append, length-set, length-take, get_or-take}
+use Rattle.std.specs.List.{sum_by}
+use Rattle.std.proofs.lemmas.List.Sums.{sum_by-le, sum_by-set, sum_by_push}
 use lib.ListN.{get_or-append}
 use lib.Seq.{take-set-lt}
 use Rattle.std.proofs.lemmas.Bool.{and_parts, cond_both, ltb-true}
@@ -24,32 +26,15 @@ use Rattle.bench.proofs.Lists.{count_le, count_cleared}
 abbrev ways : Flight → ℕ
 ways fl = count_true (take 8 fl.goals)
 
-abbrev weigh : List Flight → ℕ
-weigh [] = 0
-weigh (fl ∷ rest) = ways fl + weigh rest
-
 -- the open ways of all flights, and eight for each flight that may still begin
 abbrev pub weight : List Flight → ℕ
-weight fs = weigh fs + 8 * (120 - length fs)
+weight fs = sum_by ways fs + 8 * (120 - length fs)
 
 ways_few : (fl : Flight) → ways fl ≤ 8
 ways_few fl = omega (arith, count_le (take 8 fl.goals), length-take 8 fl.goals)
 
-weigh_few : (fs : List Flight) → weigh fs ≤ 8 * length fs
-weigh_few [] = omega arith
-weigh_few (fl ∷ rest) = let h = weigh_few rest in let k = ways_few fl in omega arith
-
 pub weight_few : (fs : List Flight) → length fs ≤ 120 → weight fs ≤ 960
-weight_few fs few = omega (arith, weigh_few fs)
-
-weigh_append : (xs ys : List Flight) → weigh (xs ++ ys) ≡ weigh xs + weigh ys
-weigh_append [] ys = omega arith
-weigh_append (fl ∷ rest) ys = let h = weigh_append rest ys in omega arith
-
-weigh_set : (fs : List Flight) (i : ℕ) (fl : Flight) → i < length fs → weigh (set fs i fl) + ways (get_or fs i no_flight) ≡ weigh fs + ways fl
-weigh_set [] i fl h = absurd (omega arith)
-weigh_set (x ∷ rest) zero fl h = omega arith
-weigh_set (x ∷ rest) (suc i) fl h = let e = weigh_set rest i fl (omega arith) in omega arith
+weight_few fs few = omega (arith, sum_by-le ways 8 fs (λ k d h. ways_few (get_or fs k d)))
 
 -- the flight at place i is on its way to place q
 abbrev OnWay : List Flight → ℕ → ℕ → Type 0
@@ -77,7 +62,7 @@ next_on_way c i q e = by (first (has_goal c) (length c.flights)) refl e
 ended_less : (fs : List Flight) (i q : ℕ) → OnWay fs i q → weight (set fs i (marked (get_or fs i no_flight) q)) + 1 ≡ weight fs
 ended_less fs i q on =
     let fl = get_or fs i no_flight in
-    let a = weigh_set fs i (marked fl q) on.0 in
+    let a = sum_by-set ways fs i (marked fl q) no_flight on.0 in
     let b = count_cleared (take 8 fl.goals) q (get_or-take 8 fl.goals q false on.1 ∙ on.2) in
     let e = ap count_true (take-set-lt 8 fl.goals q false on.1) in
     simp length-set (omega arith)
@@ -113,7 +98,7 @@ receives_begins admitted same s z q bytes m = accepts_begins s z q m (received a
 begun : (fs gs : List Flight) (i q : ℕ) → Begins fs gs → OnWay fs i q → (weight gs ≤ weight fs) × OnWay gs i q
 begun fs gs i q none on = (omega arith, on)
 begun fs gs i q (one fl few) on =
-    let w = weigh_append fs (fl ∷ []) in
+    let w = sum_by_push ways fs fl in
     let k = ways_few fl in
     let same = get_or-append fs (fl ∷ []) no_flight i on.0 in
     (simp length-append (omega arith), (simp length-append (omega arith), on.1, ap (λ x. get_or x.goals q false) same ∙ on.2))
