@@ -80,6 +80,7 @@ impl<S: Scheme, K: Kind> Bench<S, K> {
 
 impl<S: Scheme, K: Kind> Bench<S, K> {
     // The processor at place q receives bytes. Its part is copied out, and written back where the frame is accepted.
+    // The answer is the new flight, or 0: no Option, since the rules number an answer without a flight 0.
     pub(crate) fn receive(&mut self, plan: &Plan, q: Place, bytes: &[u8]) -> Result<u32, Refusal>
         ensures grows { length self.old.inner.flights ≤ length self.new.inner.flights }
         ensures is { (z : ℕ) × ((result, model_of S.Scheme.meaning self.new) ≡ receives K.Kind.admitted K.Kind.same (setup_of plan.now) z q bytes.now (model_of S.Scheme.meaning self.old)) }

@@ -10,6 +10,7 @@ use refusals::Refusal;
 use seals::Scheme;
 
 // An item's broadcasts, and the decisions recorded so far by the n processors; that of processor p is at p - 1.
+// An array of eight and how many count: no heap here.
 #[derive(Clone, Copy, Debug, PartialEq, Eq)]
 pub struct Report {
     pub n: u8,

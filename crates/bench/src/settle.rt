@@ -15,7 +15,8 @@ use refusals::Refusal;
 use seals::Scheme;
 
 impl Inner {
-    // The place of the lowest flight with a goal that has not turned, and the place of its lowest such goal.
+    // The place of the lowest flight with a goal that has not turned, and the place of its lowest such goal: a pair, as
+    // its definition has it, and taken apart at once.
     fn next(&self) -> Option<(usize, Place)>
         ensures is { result ≡ next (core_of self.now) }
         ensures within { IfSome result (λ x. x.0 < length self.now.flights) }

@@ -18,7 +18,8 @@ pub struct Inner {
     pub flights: Flights,
 }
 
-// The processors, and the scheme that they seal with.
+// The processors, and the scheme that they seal with. No model of its own: `into_scheme` gives the very scheme back, and
+// a view by its meaning would forget it. A call takes the plan out and lends it on: a refused making has none.
 #[derive(Drop)]
 pub struct Bench<S, K> {
     pub(crate) inner: Inner,

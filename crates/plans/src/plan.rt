@@ -18,7 +18,8 @@ pub struct Appointment {
     pub reading: u32,
 }
 
-// Sizes and an agenda that passed their tests. The items are the first `count` of the eight places.
+// Sizes and an agenda that passed their tests. The items are the first `count` of the eight places: an array with its
+// length, since there is no heap here and a plan is copied.
 #[derive(Clone, Copy, Debug, PartialEq, Eq)]
 pub struct Plan {
     pub n: u8,
