@@ -3,6 +3,7 @@ ghost use Rattle.std.specs.Prelude.{◌≡◌, ◌+◌, ◌<◌, ◌≤◌, leng
 ghost use Rattle.std.specs.Option.{option_map};
 ghost use Rattle.plans.specs.Setups.{setup_of};
 ghost use Rattle.bench.specs.Model.{core_of, model_of};
+ghost use Rattle.bench.specs.Places.{correct_at};
 ghost use Rattle.bench.specs.Calls.{lifted, count_true, seat, turns, sets, goal_of, is_correct, is_late, overdue, advances};
 
 use crate::flight::Flight;
@@ -27,15 +28,21 @@ fn is_late(plan: &Plan, seats: &Seats, t: u32, flight: &Flight) -> bool
 }
 
 impl Inner {
-    // The place of a processor that has not turned, or row 10 or 12.
-    pub(crate) fn seat(&self, plan: &Plan, p: u32) -> Result<Place, Refusal>
-        ensures { result ≡ seat (setup_of plan.now) (core_of self.now) p }
+    // Row 12: the processor at place q has not turned.
+    pub(crate) fn correct(&self, q: Place) -> Result<Place, Refusal>
+        ensures { result ≡ correct_at (core_of self.now) q }
     {
-        let q = Place::of(plan, p)?;
         if self.seats.has_turned(q) {
             return Err(Refusal::Faulty);
         }
         Ok(q)
+    }
+
+    // The place of a processor that has not turned, or row 10 or 12.
+    pub(crate) fn seat(&self, plan: &Plan, p: u32) -> Result<Place, Refusal>
+        ensures { result ≡ seat (setup_of plan.now) (core_of self.now) p }
+    {
+        self.correct(Place::of(plan, p)?)
     }
 
     // The place of the lowest flight that would be past its time at t.

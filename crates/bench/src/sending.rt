@@ -22,10 +22,7 @@ impl Inner {
         if !plan.has_item(item) {
             return Err(Refusal::Item);
         }
-        if self.seats.has_turned(q) {
-            return Err(Refusal::Faulty);
-        }
-        Ok(q)
+        self.correct(q)
     }
 
     // The place of the receiver of injected bytes, or row 10, 12 or 13.
@@ -33,10 +30,7 @@ impl Inner {
         ensures { result ≡ route (setup_of plan.now) (core_of self.now) from to }
     {
         let sender = Place::of(plan, from)?;
-        let q = Place::of(plan, to)?;
-        if self.seats.has_turned(q) {
-            return Err(Refusal::Faulty);
-        }
+        let q = self.correct(Place::of(plan, to)?)?;
         if !self.seats.has_turned(sender) {
             return Err(Refusal::Sound);
         }
