@@ -77,7 +77,7 @@ impl<'a> Player<'a> {
     fn refuse_rest(&mut self) -> Result<(), AllocError>
         ensures { IfOk result (λ _. string_bytes self.new.out ≡ string_bytes self.old.out ++ out_of_order (left self.old.lines)) }
     {
-        while let Some(_) = self.next_line()? {
+        while self.next_line()?.is_some() {
             self.out.push_str("no 60\n")?;
         }
         Ok(())
