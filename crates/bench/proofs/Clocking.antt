@@ -48,7 +48,7 @@ unrecorded : (b : Kept.Bag) → record_in b ≡ None → is_closed (bag_shown b)
 unrecorded Empty e = refl
 unrecorded (One v) e = refl
 unrecorded (Two v w) e = refl
-unrecorded (Closed d) e = let z : ◌≡◌ {A = ℕ} 0 1 = cc in absurd (omega arith)
+unrecorded (Closed d) e = absurd (cc)
 
 -- one more has turned
 count_more : (xs : List Bool) (q : ℕ) → q < length xs → get_or xs q false ≡ false → count_true (set xs q true) ≡ suc (count_true xs)

@@ -10,7 +10,7 @@ count_le (false ∷ xs) = let h = count_le xs in omega arith
 
 -- a mark that is taken away
 pub count_cleared : (xs : List Bool) (q : ℕ) → get_or xs q false ≡ true → count_true (set xs q false) + 1 ≡ count_true xs
-count_cleared [] q e = absurd (let z : ◌≡◌ {A = ℕ} 0 1 = cc in omega arith)
+count_cleared [] q e = absurd (cc)
 count_cleared (true ∷ xs) zero e = omega arith
-count_cleared (false ∷ xs) zero e = absurd (let z : ◌≡◌ {A = ℕ} 0 1 = cc in omega arith)
+count_cleared (false ∷ xs) zero e = absurd (cc)
 count_cleared (x ∷ xs) (suc q) e = let h = count_cleared xs q e in omega arith

@@ -38,15 +38,15 @@ use Rattle.bench.proofs.Tied.{Tied, opening, turning, quiet}
 -- decisions
 
 record_closed : (b : Kept.Bag) (d : Decision) → record_in b ≡ Some d → bag_shown b ≡ closed (verdict_of d)
-record_closed Empty d h = let z : ◌≡◌ {A = ℕ} 0 1 = cc in absurd (omega arith)
-record_closed (One v) d h = let z : ◌≡◌ {A = ℕ} 0 1 = cc in absurd (omega arith)
-record_closed (Two v w) d h = let z : ◌≡◌ {A = ℕ} 0 1 = cc in absurd (omega arith)
+record_closed Empty d h = absurd (cc)
+record_closed (One v) d h = absurd (cc)
+record_closed (Two v w) d h = absurd (cc)
 record_closed (Closed e) d h = let k : e ≡ d = cc in ap (λ (x : Decision). closed (verdict_of x)) k
 
 closed_record : (b : Kept.Bag) (r : Verdict) → bag_shown b ≡ closed r → (d : Decision) × (record_in b ≡ Some d)
-closed_record Empty r h = let z : ◌≡◌ {A = ℕ} 0 1 = cc in absurd (omega arith)
-closed_record (One v) r h = let z : ◌≡◌ {A = ℕ} 0 1 = cc in absurd (omega arith)
-closed_record (Two v w) r h = let z : ◌≡◌ {A = ℕ} 0 1 = cc in absurd (omega arith)
+closed_record Empty r h = absurd (cc)
+closed_record (One v) r h = absurd (cc)
+closed_record (Two v w) r h = absurd (cc)
 closed_record (Closed d) r h = (d, refl)
 
 -- only items from 1 to 8 have records
@@ -55,18 +55,18 @@ recorded_item k q item d h = go (leb 1 item && leb item 8) h
   where
     go : (b : Bool) → cond b (record_in (bag_of (get_or k.core.parts q no_part) item)) None ≡ Some d → b ≡ true
     go true e = refl
-    go false e = let z : ◌≡◌ {A = ℕ} 0 1 = cc in absurd (omega arith)
+    go false e = absurd (cc)
 
 pub decided_shown : (k : Model) (p item : ℕ) (d : Decision) → Decided k p item d → Theorem.Decided (view k) p item (verdict_of d)
 decided_shown k zero item d h = absurd h
-decided_shown k (suc q) zero d h = let z : ◌≡◌ {A = ℕ} 0 1 = cc in absurd (omega arith)
+decided_shown k (suc q) zero d h = absurd (cc)
 decided_shown k (suc q) (suc j) d h =
     let part = get_or k.core.parts q no_part in
     record_closed (bag_at part (suc j)) d (ap record_in (bag_at_bag_of part (suc j) (omega arith)) ∙ sym (cond-true _ _ None (recorded_item k q (suc j) d h)) ∙ h)
 
 shown_decided : (k : Model) (p item : ℕ) (r : Verdict) → 1 ≤ item → item ≤ 8 → Theorem.Decided (view k) p item r → (d : Decision) × Decided k p item d
 shown_decided k zero zero r a b h = absurd (omega arith)
-shown_decided k zero (suc j) r a b h = let z : ◌≡◌ {A = ℕ} 0 1 = cc in absurd (omega arith)
+shown_decided k zero (suc j) r a b h = absurd (cc)
 shown_decided k (suc q) zero r a b h = absurd (omega arith)
 shown_decided k (suc q) (suc j) r a b h =
     let part = get_or k.core.parts q no_part in
@@ -75,8 +75,8 @@ shown_decided k (suc q) (suc j) r a b h =
 
 verdict_same : (d e : Decision) → verdict_of d ≡ verdict_of e → d ≡ e
 verdict_same Default Default h = refl
-verdict_same Default (Value w) h = let z : ◌≡◌ {A = ℕ} 0 1 = cc in absurd (omega arith)
-verdict_same (Value v) Default h = let z : ◌≡◌ {A = ℕ} 0 1 = cc in absurd (omega arith)
+verdict_same Default (Value w) h = absurd (cc)
+verdict_same (Value v) Default h = absurd (cc)
 verdict_same (Value v) (Value w) h = let e : v ≡ w = cc in ap Value e
 
 agree_alike : (W : World) (d e : Decision) → Agree (plan_of W) (verdict_of d) (verdict_of e) → Alike W.same d e
@@ -86,12 +86,12 @@ agree_alike W (Value v) Default h = h
 agree_alike W (Value v) (Value w) h = h
 
 is_value : (d : Decision) (v : ℕ) → verdict_of d ≡ chosen v → d ≡ Value v
-is_value Default v h = let z : ◌≡◌ {A = ℕ} 0 1 = cc in absurd (omega arith)
+is_value Default v h = absurd (cc)
 is_value (Value w) v h = let k : w ≡ v = cc in ap Value k
 
 is_default : (d : Decision) → verdict_of d ≡ default → d ≡ Default
 is_default Default h = refl
-is_default (Value w) h = let z : ◌≡◌ {A = ℕ} 0 1 = cc in absurd (omega arith)
+is_default (Value w) h = absurd (cc)
 
 -- broadcasts
 
@@ -221,7 +221,7 @@ module _ (W : World) (step_tied : StepTied W) (m : Model) (S : Sound W m) (B : S
       go (opening q a w ec er x) (inr e) ih = opens_on (plan_of W) q a w (view j) (view l) x i v (ih e)
       go (turning q ec er x) (inl e) ih =
           let f : turn_call q ≡ open_call p i v = sym ec ∙ ap (λ (y : Event). y.0) e in
-          let z : ◌≡◌ {A = ℕ} 0 1 = cc in absurd (omega arith)
+          absurd (cc)
       go (turning q ec er x) (inr e) ih = (turns_opened (plan_of W) q (view j) (view l) x).on i v (ih e)
       go (quiet no-open no-turn x) (inl e) ih = absurd (no-open p i v (ap (λ (y : Event). y.0) e) (ap (λ (y : Event). y.1) e))
       go (quiet no-open no-turn x) (inr e) ih = (inside_opened (plan_of W) (view j) (view l) x).on i v (ih e)

@@ -170,5 +170,5 @@ unaltered admitted same s k l c r plan step = does c step.does
     does (inject_call from to bytes) (z, e) = left_by_call (λ _. k) _ r l (injects_stays admitted same z from to bytes k) e
     does (deliver_call flight p) (z, e) = left_by_call _ _ r l (delivers_left admitted same z flight p k s plan) e
     does (decide_call p i) e = left_by_call (λ _. k) _ r l (lifted_stays (decides p i) k (decides_stays p i k.core)) e
-    does settle_call (Ok n, st, e) = let z : ◌≡◌ {A = ℕ} 0 1 = cc in absurd (omega arith)
+    does settle_call (Ok n, st, e) = absurd (cc)
     does settle_call (Err t, st, e) = st.1

@@ -166,13 +166,13 @@ module _ (W : World) (m : Model) (S : Sound W m) where
           (low, seat.1, not-true _ both.1, both.0)
 
       goal : (j : ℕ) (o : Option ℕ) → first (has_goal c) (length c.flights) ≡ Some j → goal_of c.turned (flight_of c j) ≡ o → with_goal j o ≡ Some (i, q) → Next i q
-      goal j None ej eg h = let z : ◌≡◌ {A = ℕ} 0 1 = cc in absurd (omega arith)
+      goal j None ej eg h = absurd (cc)
       goal j (Some g) ej eg h =
           let is : ◌≡◌ {A = ℕ × ℕ} (j, g) (i, q) = cc in
           subst (λ (x : ℕ × ℕ). Next x.0 x.1) is (found j g ej eg)
 
       flight : (o : Option ℕ) → first (has_goal c) (length c.flights) ≡ o → goal_at c o ≡ Some (i, q) → Next i q
-      flight None ej h = let z : ◌≡◌ {A = ℕ} 0 1 = cc in absurd (omega arith)
+      flight None ej h = absurd (cc)
       flight (Some j) ej h = goal j (goal_of c.turned (flight_of c j)) ej refl h
 
   next_none : next c ≡ None → (k p : ℕ) → k < length c.flights → (view m).way k p ≡ true → (view m).turned p ≡ false → ⊥
@@ -182,7 +182,7 @@ module _ (W : World) (m : Model) (S : Sound W m) where
     where
       no_goal : (j : ℕ) (o : Option ℕ) → is_some o ≡ true → with_goal j o ≡ None → ⊥
       no_goal j None s h = both_ways false refl s
-      no_goal j (Some g) s h = let z : ◌≡◌ {A = ℕ} 0 1 = cc in absurd (omega arith)
+      no_goal j (Some g) s h = absurd (cc)
 
       no_flight_at : (o : Option ℕ) → first (has_goal c) (length c.flights) ≡ o → goal_at c o ≡ None → first (has_goal c) (length c.flights) ≡ None
       no_flight_at None ej h = ej
@@ -287,8 +287,7 @@ module _ (W : World) where
             λ correct.
                 let g = decides_granted W m S p i seat item (sym (ap (λ (x : Core). entry_of false x.turned p) is) ∙ correct) (ripe i item) in
                 let clash : Err r ≡ Ok g.0 = sym (ap (λ x. x.0) e) ∙ g.1 in
-                let z : ◌≡◌ {A = ℕ} 0 1 = cc in
-                absurd (omega arith),
+                absurd (cc),
           )
 
   items_lead : (m : Model) → Sound W m → Made (plan_of W) (view m) → Ripe W m → (p k : ℕ) → Seat (plan_of W) p → k ≤ length W.setup.agenda
@@ -343,8 +342,7 @@ module _ (W : World) where
       go : (a : Result ℕ Refusal) → Settles W.admitted W.same k a l → r ≡ refusal_of_answer a → Sound W l × Inside (plan_of W) (view k) (view l) × (r ≡ None) × Finished (plan_of W) (view l)
       go (Err x) h e =
           let clash : Err x ≡ Ok W.setup = sym h.0 ∙ S.plan in
-          let z : ◌≡◌ {A = ℕ} 0 1 = cc in
-          absurd (omega arith)
+          absurd (cc)
       go (Ok n) h e =
           let j = h.1 in
           let ok : Ok h.0 ≡ Ok W.setup = sym h.2 ∙ S.plan in

@@ -45,9 +45,9 @@ record Opening (W : World) (r i v : ℕ) (part : Part) : Type 0 where
 
 empty_bag_is : (b : Kept.Bag) → is_empty b ≡ true → bag_shown b ≡ empty
 empty_bag_is Empty h = refl
-empty_bag_is (One a) h = let z : ◌≡◌ {A = ℕ} 0 1 = cc in absurd (omega arith)
-empty_bag_is (Two a b) h = let z : ◌≡◌ {A = ℕ} 0 1 = cc in absurd (omega arith)
-empty_bag_is (Closed d) h = let z : ◌≡◌ {A = ℕ} 0 1 = cc in absurd (omega arith)
+empty_bag_is (One a) h = absurd (cc)
+empty_bag_is (Two a b) h = absurd (cc)
+empty_bag_is (Closed d) h = absurd (cc)
 
 opening_is : (W : World) (r i v : ℕ) (part : Part) → opening W.admitted W.setup r i v part ≡ Ok tt → Opening W r i v part
 opening_is W r i v part h =

@@ -34,11 +34,11 @@ granted_lifted call m y l e = (l.core, ap (λ z. (z.0, z.1.core)) e, ap (λ z. r
 -- what a granted call of a run answered
 pub granted_is : {R : Type 0} (x : Result R Refusal × Model) (l : Model) → Leaves x None l → (y : R) × (x ≡ (Ok y, l))
 granted_is (Ok y, k) l h = (y, ap (λ (z : Model). (Ok y, z)) (sym h.1))
-granted_is (Err r, k) l h = let e = h.0 in let z : ◌≡◌ {A = ℕ} 0 1 = cc in absurd (omega arith)
+granted_is (Err r, k) l h = let e = h.0 in absurd (cc)
 
 -- a refused one
 pub refused_is : {R : Type 0} (x : Result R Refusal × Model) (r : Refusal) (l : Model) → Leaves x (Some r) l → x.0 ≡ Err r
-refused_is (Ok y, k) r l h = let e = h.0 in let z : ◌≡◌ {A = ℕ} 0 1 = cc in absurd (omega arith)
+refused_is (Ok y, k) r l h = let e = h.0 in absurd (cc)
 refused_is (Err t, k) r l h = let e = h.0 in let q : t ≡ r = cc in ap Err q
 
 -- and either

@@ -46,11 +46,11 @@ unfolding next
 next_on_way c i q e = by (first (has_goal c) (length c.flights)) refl e
   where
     goal : (j : ℕ) (o : Option ℕ) → with_goal j o ≡ Some (i, q) → (j ≡ i) × (o ≡ Some q)
-    goal j None g = absurd (let z : ◌≡◌ {A = ℕ} 0 1 = cc in omega arith)
+    goal j None g = absurd (cc)
     goal j (Some k) g = let p : ◌≡◌ {A = ℕ × ℕ} (j, k) (i, q) = cc in (ap (λ x. x.0) p, ap (λ x. Some x.1) p)
 
     by : (o : Option ℕ) → first (has_goal c) (length c.flights) ≡ o → goal_at c o ≡ Some (i, q) → OnWay c.flights i q
-    by None f g = absurd (let z : ◌≡◌ {A = ℕ} 0 1 = cc in omega arith)
+    by None f g = absurd (cc)
     by (Some j) f g =
         let w = goal j (goal_of c.turned (get_or c.flights j no_flight)) g in
         let lt = first_found (has_goal c) (length c.flights) j f in

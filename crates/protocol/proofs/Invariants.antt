@@ -284,8 +284,8 @@ module _ (P : Plan) (i : ℕ) (x y : State) (I : Inv P i x) where
         go (no e) = old (subst (λ b. Holds b u) (s.there q e) h)
 
     put_open : {A : Type 0} (b : Bag) (r : Verdict) → fresh P b v ≡ true → put b v ≡ closed r → A
-    put_open empty r f e = let z : ◌≡◌ {A = ℕ} 0 1 = cc in absurd (omega arith)
-    put_open (one w) r f e = let z : ◌≡◌ {A = ℕ} 0 1 = cc in absurd (omega arith)
+    put_open empty r f e = absurd (cc)
+    put_open (one w) r f e = absurd (cc)
     put_open (two w u) r f e = absurd (false≢true f)
     put_open (closed k) r f e = absurd (false≢true f)
 

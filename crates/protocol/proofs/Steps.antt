@@ -84,7 +84,7 @@ inv_start P i x s = record {
     none m h = let z = s.number in omega arith
 
     clash : {A : Type 0} (r : Verdict) → empty ≡ closed r → A
-    clash r e = let z : ◌≡◌ {A = ℕ} 0 1 = cc in absurd (omega arith)
+    clash r e = absurd (cc)
 
 module _ (P : Plan) (i : ℕ) (x : State) (g : Ground P x) (I : Inv P i x) where
   -- once decisions may stand, what a correct processor has broadcast has come to every correct one

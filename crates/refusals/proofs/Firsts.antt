@@ -37,12 +37,12 @@ first_stop P i (suc n) h e t = by (cases_order i n) (λ l. first_stop P i n l e 
 -- what is answered is below m, and P says yes there
 pub first_found : (P : ℕ → Bool) (m k : ℕ) → first P m ≡ Some k → (k < m) × (P k ≡ true)
 unfolding first
-first_found P zero k e = absurd (let z : ◌≡◌ {A = ℕ} 0 1 = cc in omega arith)
+first_found P zero k e = absurd (cc)
 first_found P (suc m) k e = by (first P m) refl (P m) refl e (first_found P m)
   where
     by : (o : Option ℕ) → first P m ≡ o → (b : Bool) → P m ≡ b → or_here o b m ≡ Some k → ((j : ℕ) → first P m ≡ Some j → (j < m) × (P j ≡ true)) → (k < suc m) × (P k ≡ true)
     by None f true g h ih = let q : m ≡ k = cc in (omega arith, rw q at g)
-    by None f false g h ih = absurd (let z : ◌≡◌ {A = ℕ} 0 1 = cc in omega arith)
+    by None f false g h ih = absurd (cc)
     by (Some j) f b g h ih = let q : j ≡ k = cc in let r = ih j f in (omega arith, rw q at r.1)
 
 -- where none is found, none passes
@@ -52,8 +52,8 @@ none_at P zero k e h = absurd (omega arith)
 none_at P (suc m) k e h = go (first P m) (P m) refl refl e (ℕ_discrete k m) (λ f l. none_at P m k f l)
   where
     go : (o : Option ℕ) (b : Bool) → first P m ≡ o → P m ≡ b → or_here o b m ≡ None → Dec (k ≡ m) → (first P m ≡ None → k < m → P k ≡ false) → P k ≡ false
-    go (Some j) b eo eb f d ih = let z : ◌≡◌ {A = ℕ} 0 1 = cc in absurd (omega arith)
-    go None true eo eb f d ih = let z : ◌≡◌ {A = ℕ} 0 1 = cc in absurd (omega arith)
+    go (Some j) b eo eb f d ih = absurd (cc)
+    go None true eo eb f d ih = absurd (cc)
     go None false eo eb f (yes q) ih = ap P q ∙ eb
     go None false eo eb f (no q) ih = ih eo (omega arith)
 

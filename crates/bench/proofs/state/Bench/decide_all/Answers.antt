@@ -1,14 +1,13 @@
-use Rattle.std.proofs.Common.{◌≡◌, ◌+◌, ◌-◌, length, ap, ◌∙◌, arith}
+use Rattle.std.proofs.Common.{◌≡◌, refl, ◌+◌, ◌-◌, length, ap, ◌∙◌, arith}
 use Rattle.bench.specs.Model.{model_of}
 use Rattle.bench.specs.Flights.{on_core}
 use Rattle.bench.specs.Settling.{decides_all}
-use Rattle.bench.proofs.Decidings.{all_none, all_next}
+use Rattle.bench.proofs.Decidings.{all_next}
 use Rattle.bench.proofs.state.Bench.decide_all.Goals as goal
 
 pub loop-p-init : goal.loop-p-init
-loop-p-init g c =
-    let m = model_of g.S.Scheme.meaning c.args.self.now in
-    (ap (on_core m) (all_none (length c.agenda.result.now) m.core), omega arith)
+unfolding decides_all
+loop-p-init g c = (refl, omega arith)
 
 pub loop-p-preserved : goal.loop-p-preserved
 loop-p-preserved g c =

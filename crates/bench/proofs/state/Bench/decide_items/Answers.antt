@@ -1,14 +1,13 @@
-use Rattle.std.proofs.Common.{◌≡◌, ◌+◌, ◌-◌, ap, ◌∙◌, arith}
+use Rattle.std.proofs.Common.{◌≡◌, refl, ◌+◌, ◌-◌, ap, ◌∙◌, arith}
 use Rattle.bench.specs.Model.{model_of}
 use Rattle.bench.specs.Flights.{on_core}
 use Rattle.bench.specs.Settling.{decides_items}
-use Rattle.bench.proofs.Decidings.{items_none, items_next}
+use Rattle.bench.proofs.Decidings.{items_next}
 use Rattle.bench.proofs.state.Bench.decide_items.Goals as goal
 
 pub loop-item-init : goal.loop-item-init
-loop-item-init g c =
-    let m = model_of g.S.Scheme.meaning c.args.self.now in
-    (ap (on_core m) (items_none c.args.p m.core), omega arith)
+unfolding decides_items
+loop-item-init g c = (refl, omega arith)
 
 pub loop-item-preserved : goal.loop-item-preserved
 loop-item-preserved g c =
