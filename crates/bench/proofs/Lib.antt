@@ -1,4 +1,3 @@
-mod Changing
 mod Mapping
 mod Wanting
 pub mod Decidings

@@ -1,5 +1,6 @@
-use Rattle.bench.proofs.Changing.{offset_set}
+use Rattle.std.proofs.Common.{rules}
+use Rattle.std.proofs.Math.Seq.{map-set, map-set_same}
 use Rattle.bench.proofs.seats.Seats.set_offset.Goals as goal
 
 pub returns : goal.returns
-returns c = offset_set c.self.inside.seats _ _ _ _ c.self.view_is c.index.ensures.is c.args.offset
+returns c = search (rules, map-set, map-set_same)

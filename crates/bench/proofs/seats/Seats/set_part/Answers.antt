@@ -1,5 +1,6 @@
-use Rattle.bench.proofs.Changing.{part_set}
+use Rattle.std.proofs.Common.{rules}
+use Rattle.std.proofs.Math.Seq.{map-set, map-set_same}
 use Rattle.bench.proofs.seats.Seats.set_part.Goals as goal
 
 pub returns : goal.returns
-returns c = part_set c.self.inside.seats _ _ _ _ c.self.view_is c.index.ensures.is c.args.part
+returns c = search (rules, map-set, map-set_same)
