@@ -1,4 +1,5 @@
 -- Clocks, faults, time, seals of the faulty and decisions: each of these calls is a move of the protocol.
+use Rattle.std.proofs.lemmas.Bool.Decides.{same_from_decides}
 use Rattle.std.proofs.Common.{◌≡◌, ℕ, zero, suc, ◌+◌, ◌-◌, ◌*◌, ◌^◌, ◌<◌, ◌≤◌, Bool, true, false, cond, ◌&&◌, ltb, leb, ◌⊎◌, List, [], ◌∷◌, reverse, length, get_or, set, is_some, Some, None, Ok, Option, sym, refl, ap, ◌∙◌, subst, inl, inr, arith}
 use Rattle.std.proofs.lemmas.List.{get_or-set_same, get_or_past, length-set, set-get_or}
 use Rattle.std.proofs.lemmas.Bool.{cases_Bool, cases_lt, and_parts, and_from, leb-true, leb-false, le-leb, ltb-false, cond-true, cond-false, not_from_false, both_ways}
@@ -55,11 +56,6 @@ count_more : (xs : List Bool) (q : ℕ) → q < length xs → get_or xs q false 
 count_more [] q h e = absurd (omega arith)
 count_more (x ∷ xs) zero h e = let k = ap (λ (b : Bool). cond b 1 0 + count_true xs) e in omega arith
 count_more (x ∷ xs) (suc q) h e = let k = count_more xs q (omega arith) e in omega arith
-
-same_truth : (a b : Bool) → (a ≡ true → b ≡ true) → (b ≡ true → a ≡ true) → a ≡ b
-same_truth true b h k = sym (h refl)
-same_truth false true h k = k refl
-same_truth false false h k = refl
 
 module _ (W : World) (m : Model) (S : Sound W m) where
   abbrev c : Core
@@ -260,7 +256,7 @@ module _ (W : World) (m : Model) (S : Sound W m) where
     grown a t h = let g = signed_grows m.scheme p text z in ap (λ (ts : List Triple). has ts a t) g.1 ∙ has_more m.scheme.triples g.0 a t h
 
     of_others : (a : ℕ) (t : List ℕ) → ¬ (a ≡ p) → has forged.scheme.triples a t ≡ has m.scheme.triples a t
-    of_others a t n = same_truth _ _ (λ h. old (signed_only m.scheme p text z a t h)) (grown a t)
+    of_others a t n = same_from_decides _ _ ((λ h. old (signed_only m.scheme p text z a t h)), grown a t) ((λ h. h), (λ h. h))
       where
         old : (has m.scheme.triples a t ≡ true) ⊎ ((p ≡ a) × (text ≡ t)) → has m.scheme.triples a t ≡ true
         old (inl h) = h

@@ -1,13 +1,13 @@
 -- Looking up the table by a number and by a name.
-use Rattle.std.proofs.Common.{◌≡◌, ℕ, false, List, [], ◌∷◌, sym, refl, ◌∙◌, ⊎_elim}
+use Rattle.std.proofs.Common.{◌≡◌, ℕ, false, List, [], ◌∷◌, sym, refl, ◌∙◌}
 use Rattle.std.specs.List.{AllByRecursion}
 use Rattle.std.specs.Str.{bytes_eq}
 use Rattle.std.proofs.lemmas.Slice.Eq.{bytes_eq-Decides}
-use Rattle.std.proofs.lemmas.Bool.{cond-false, cases_Bool}
+use Rattle.std.proofs.lemmas.Bool.{cond-false, false_from_ne_true}
 use Rattle.refusals.specs.Table.{Entry, numbered_in}
 
 differ : (a b : List ℕ) → (b ≡ a → ⊥) → bytes_eq a b ≡ false
-differ a b no' = ⊎_elim (λ y. absurd (no' (sym ((bytes_eq-Decides a b).0 y)))) (λ n. n) (cases_Bool (bytes_eq a b))
+differ a b no' = false_from_ne_true _ (λ y. no' (sym ((bytes_eq-Decides a b).0 y)))
 
 -- a name that no row has
 pub none_of : (es : List Entry) (t : List ℕ) → AllByRecursion (λ e. t ≡ e.name → ⊥) es → 0 ≡ numbered_in es t
