@@ -1,5 +1,5 @@
 -- One item, and one processor, more.
-use Rattle.std.proofs.Common.{◌≡◌, ℕ, zero, suc, ◌+◌, ◌-◌, ◌≤◌, Result, refl, ap, ◌∙◌, arith}
+use Rattle.std.proofs.Common.{◌≡◌, ℕ, zero, suc, ◌-◌, ◌≤◌, Result, refl, ap, ◌∙◌, arith}
 use Rattle.refusals.specs.declared.refusal.Refusal.{Refusal}
 use Rattle.processor.specs.declared.part.Decision.{Decision}
 use Rattle.bench.specs.Model.{Core, Model}

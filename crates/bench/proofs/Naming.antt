@@ -1,7 +1,6 @@
 -- Numbers in a list, oldest first and newest first.
 use Rattle.std.proofs.Common.{◌≡◌, ℕ, ◌≤◌, false, List, [], ◌∷◌, ◌++◌, reverse, length, sym, refl, arith}
 use mathlib.Core.List.{reverse-cons}
-use Rattle.std.proofs.lemmas.List.{reverse-append}
 use Rattle.std.proofs.lemmas.Bool.{or_parts, or_from, eqb-false, ne_eqb}
 use Rattle.frames.specs.declared.link.Link.{Link}
 use Rattle.processor.specs.Broadcasts.{owed_for, links_in}

@@ -1,5 +1,5 @@
 -- What follows from the answer of a call of the bench.
-use Rattle.std.proofs.Common.{◌≡◌, ℕ, Bool, true, false, cond, Some, None, Ok, Err, Option, Result, sym, refl, ap, arith}
+use Rattle.std.proofs.Common.{◌≡◌, Bool, true, false, cond, Some, None, Ok, Err, Option, Result, sym, refl, ap}
 use Rattle.refusals.specs.declared.refusal.Refusal.{Refusal}
 use Rattle.plans.specs.Setups.{Setup}
 use Rattle.bench.specs.Model.{Core, Model}

@@ -1,10 +1,10 @@
 -- The readings of a plan's agenda.
 use Rattle.std.specs.List.{fold}
-use Rattle.std.proofs.Common.{max, ◌∙◌, ◌≡◌, ℕ, ◌+◌, ◌≤◌, true, leb, List, [], ◌∷◌, length, arith}
+use Rattle.std.proofs.Common.{max, ◌∙◌, ◌≡◌, ℕ, ◌≤◌, true, leb, List, [], ◌∷◌, arith}
 use Rattle.std.proofs.lemmas.Bool.{and_parts, leb-true}
 use Rattle.plans.specs.declared.plan.Appointment.{Appointment}
 use Rattle.plans.specs.Readings.{latest}
-use Rattle.plans.specs.Setups.{sizes_fit, item_fits, items_fit, agenda_fits}
+use Rattle.plans.specs.Setups.{item_fits, items_fit, agenda_fits}
 
 items_timely : (n : ℕ) (agenda : List Appointment) → items_fit n agenda ≡ true → latest agenda ≤ 1000000
 items_timely n [] h = omega arith

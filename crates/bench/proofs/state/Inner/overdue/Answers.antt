@@ -1,11 +1,10 @@
-use Rattle.std.proofs.Common.{◌≡◌, ◌∙◌, ◌<◌, ◌≤◌, length, sym, subst, rules}
+use Rattle.std.proofs.Common.{◌≡◌, ◌∙◌, rules}
 use borrow.Author.Tests.{tests}
-use Rattle.std.specs.Prelude.{IfSome}
 use Rattle.std.proofs.lemmas.Iterator.{YieldsList-from_slice}
 use Rattle.std.proofs.lemmas.Iterator.Search.{position_from_yields_List}
 use Rattle.std.specs.List.{position}
 use Rattle.plans.specs.Setups.{setup_of}
-use Rattle.refusals.proofs.Firsts.{first_position, first_within}
+use Rattle.refusals.proofs.Firsts.{first_position}
 use Rattle.bench.specs.Calls.{is_late, no_flight}
 use Rattle.bench.proofs.state.Inner.overdue.Goals as goal
 
