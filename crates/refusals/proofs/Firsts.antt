@@ -1,6 +1,6 @@
 -- The smallest place that fails, a loop that stops there, and the library's first place in a list.
 use Rattle.std.proofs.Common.{◌≡◌, ℕ, zero, suc, ◌+◌, ◌-◌, ◌<◌, ◌≤◌, Bool, true, false, ◌⊎◌, List, length, get_or, take, Some, None, Option, refl, sym, ap, ◌∙◌, inl, inr, add-one, arith}
-use Rattle.std.specs.Prelude.{IfSome, slice_index_or}
+use Rattle.std.specs.Prelude.{slice_index_or}
 use Rattle.std.specs.List.{find, list_any, position, position_or_len}
 use Rattle.std.specs.List.{list_all, range_with_len}
 use Rattle.std.specs.Prelude.{not, is_some, ◌&&◌, ◌∷◌, [], ◌++◌}
@@ -98,14 +98,6 @@ pub first_same : (P Q : ℕ → Bool) (n : ℕ) → ((k : ℕ) → k < n → P k
 unfolding first
 first_same P Q zero h = refl
 first_same P Q (suc n) h = rw (first_same P Q n (λ k l. h k (omega arith))) (rw (h n (omega arith)) refl)
-
--- what is found is below any bound of the length
-pub first_within : (P : ℕ → Bool) (m b : ℕ) → m ≤ b → IfSome (first P m) (λ k. k < b)
-first_within P m b h = by (first P m) refl
-  where
-    by : (o : Option ℕ) → first P m ≡ o → IfSome o (λ k. k < b)
-    by None e = tt
-    by (Some k) e = omega (arith, (first_found P m k e).0)
 
 -- what `any` and `contains` answer of the first n elements
 pub first_any : {X : Type 0} (p : X → Bool) (xs : List X) (n : ℕ) (d : X) → n ≤ length xs → list_any p (take n xs) ≡ is_some (first (λ k. p (get_or xs k d)) n)
