@@ -1,4 +1,3 @@
 pub mod Receiving
 pub mod Digits
-pub mod Pieces
 pub mod Turns
