@@ -55,6 +55,7 @@ impl fmt::Display for ItemLine<'_> {
         let item = self.item;
         let broadcasts = self.report.broadcasts;
         write!(f, "item {item} broadcasts {broadcasts} decisions")?;
+        // By number: no clause of a report bounds n by its eight places, and past them the word is `none`.
         for q in 0..self.report.n {
             let decision = self.report.decisions.get(usize::from(q)).copied().flatten();
             write!(f, " {}", Word(decision))?;
