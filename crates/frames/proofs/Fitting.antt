@@ -34,7 +34,7 @@ decode_is bs f e = go (cases_Bool (shaped bs))
   where
     go : (shaped bs ≡ true) ⊎ (shaped bs ≡ false) → decoded bs ≡ f
     go (inl h) = let k : Ok (decoded bs) ≡ Ok f = sym (cond-true _ _ _ h) ∙ e in cc
-    go (inr h) = let k : Err Refusal.Frame ≡ Ok f = sym (cond-false _ _ _ h) ∙ e in let z : ◌≡◌ {A = ℕ} 0 1 = cc in absurd (omega arith)
+    go (inr h) = let k : Err Refusal.Frame ≡ Ok f = sym (cond-false _ _ _ h) ∙ e in absurd (cc)
 
 pub decode_read : (bs : List ℕ) (f : Fields) → AllBelowBase 256 bs → decode bs ≡ Ok f → Read f
 unfolding decoded

@@ -1,5 +1,5 @@
 -- What follows from the answer of a step.
-use Rattle.std.proofs.Common.{◌≡◌, ℕ, Bool, true, false, cond, Ok, Err, Result, refl, ap, subst, arith}
+use Rattle.std.proofs.Common.{◌≡◌, ℕ, Bool, true, false, cond, Ok, Err, Result, refl, ap, subst}
 use Rattle.refusals.specs.declared.refusal.Refusal.{Refusal}
 use Rattle.plans.specs.Setups.{Setup}
 use Rattle.processor.specs.Agendas.{is_item, appointed}
@@ -7,10 +7,10 @@ use Rattle.processor.specs.Steps.{passes, after, after_on}
 
 -- a refusal is no answer
 pub no_ok : {X Z : Type 0} (e : Refusal) (y : X) → ◌≡◌ {A = Result X Refusal} (Err e) (Ok y) → Z
-no_ok e y h = let z : ◌≡◌ {A = ℕ} 0 1 = cc in absurd (omega arith)
+no_ok e y h = absurd (cc)
 
 pub no_err : {X Z : Type 0} (y : X) (e : Refusal) → ◌≡◌ {A = Result X Refusal} (Ok y) (Err e) → Z
-no_err y e h = let z : ◌≡◌ {A = ℕ} 0 1 = cc in absurd (omega arith)
+no_err y e h = absurd (cc)
 
 -- what is answered, or refused, is one thing
 pub ok_same : {X : Type 0} (x y : X) → ◌≡◌ {A = Result X Refusal} (Ok x) (Ok y) → x ≡ y

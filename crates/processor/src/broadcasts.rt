@@ -7,6 +7,7 @@ ghost use Rattle.processor.specs.Broadcasts.{owed_for};
 use crate::owed::Owed;
 use frames::{Frame, Link};
 
+// What lies in the plain fields past the last link.
 const NO_LINK: Link = Link {
     processor: 0,
     seal: 0,

@@ -53,7 +53,7 @@ holds_has (e ∷ ts) p t s h = has_cons e ts p t ∙ go (or_cases (is_of p t e &
 
 -- the seal that stands checks
 seal_holds : (ts : List Triple) (p : ℕ) (t : List ℕ) (s : ℕ) → seal_of ts p t ≡ Some s → holds ts p t s ≡ true
-seal_holds [] p t s h = let z : ◌≡◌ {A = ℕ} 0 1 = cc in absurd (omega arith)
+seal_holds [] p t s h = absurd (cc)
 seal_holds (e ∷ ts) p t s h = go (cases_Bool (is_of p t e)) (seal_holds ts p t s)
   where
     go : (is_of p t e ≡ true) ⊎ (is_of p t e ≡ false) → (seal_of ts p t ≡ Some s → holds ts p t s ≡ true) → holds (e ∷ ts) p t s ≡ true
@@ -131,7 +131,7 @@ pub signed_holds : (m : Meaning) (p : ℕ) (t : List ℕ) (z s : ℕ) → answer
 signed_holds m p t z s h = go (signs m p t z)
   where
     go : Signs m p t z → holds (signed m p t z).triples p t s ≡ true
-    go (refused r a e) = let k : Ok s ≡ Err r = sym h ∙ a in let no : ◌≡◌ {A = ℕ} 0 1 = cc in absurd (omega arith)
+    go (refused r a e) = let k : Ok s ≡ Err r = sym h ∙ a in absurd (cc)
     go (again u a o e) =
         let k : Ok u ≡ Ok s = sym a ∙ h in
         let q : u ≡ s = cc in
