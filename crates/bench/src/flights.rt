@@ -5,12 +5,16 @@ ghost use Rattle.bench.specs.Flights.{marked};
 
 use crate::flight::Flight;
 use crate::place::Place;
+use processor::LONGEST_FRAME;
 use std::marker::Model;
 
-// The first `count` of the 120 records: a granted bench has a place for every broadcast, and no heap.
+// The places for flights: eight items, and 2n - 1 broadcasts of each.
+const PLACES: usize = 120;
+
+// The first `count` of the records: a granted bench has a place for every broadcast, and no heap.
 #[derive(Drop)]
 pub struct Flights {
-    records: [Flight; 120],
+    records: [Flight; PLACES],
     count: usize,
 }
 
@@ -40,12 +44,12 @@ impl Flights {
             item: 0,
             author: 0,
             time: 0,
-            frame: [0; 45],
+            frame: [0; LONGEST_FRAME],
             length: 0,
             goals: [false; 8],
         };
         Flights {
-            records: [vacant; 120],
+            records: [vacant; PLACES],
             count: 0,
         }
     }
@@ -60,7 +64,7 @@ impl Flights {
     pub fn is_full(&self) -> bool
         ensures { result ≡ nat_le 120 (length self.now) }
     {
-        self.count == 120
+        self.count == PLACES
     }
 
     // One flight more; its number.

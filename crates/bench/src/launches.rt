@@ -9,7 +9,7 @@ use crate::place::Place;
 use crate::state::{Bench, Inner};
 use kinds::Kind;
 use plans::Plan;
-use processor::{Owed, Unsent, forgo, relay};
+use processor::{LONGEST_FRAME, Owed, Unsent, forgo, relay};
 use refusals::Refusal;
 use seals::Scheme;
 
@@ -58,7 +58,8 @@ impl<S: Scheme, K: Kind> Bench<S, K> {
         let author = owed.own();
         let goals = goals_for(plan, &owed);
         let time = self.inner.time;
-        let mut frame = [0; 45];
+        // The longest frame's room: no heap here.
+        let mut frame = [0; LONGEST_FRAME];
         match relay(owed, &mut self.scheme, &mut frame) {
             Ok(length) => Ok(
                 self.inner.flights.push(Flight {
@@ -106,7 +107,7 @@ impl<S: Scheme, K: Kind> Bench<S, K> {
         ensures { (z : ℕ) × ((result, model_of S.Scheme.meaning self.new) ≡ arrives K.Kind.admitted K.Kind.same (setup_of plan.now) z i q (model_of S.Scheme.meaning self.old)) }
     {
         let flight = self.inner.flights.as_slice()[i];
-        let result = self.receive(plan, q, &flight.frame[..flight.length.min(45)]);
+        let result = self.receive(plan, q, flight.bytes());
         if ends_way(result) {
             self.inner.flights.land(i, q);
         }

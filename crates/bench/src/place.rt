@@ -7,7 +7,7 @@ use plans::Plan;
 use refusals::Refusal;
 use std::marker::Model;
 
-// One of the eight places, counted from 0.
+// One of the eight places, counted from 0. It derives no comparison: contracts see a number, and nothing compares places.
 #[derive(Clone, Copy)]
 pub struct Place {
     index: usize,

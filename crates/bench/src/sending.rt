@@ -44,7 +44,7 @@ impl Inner {
     {
         let flights = self.flights.as_slice();
         let k = k as usize;
-        if k < 1 || k > flights.len() || !flights[k - 1].goals[q.index()] {
+        if !(1..=flights.len()).contains(&k) || !flights[k - 1].goals[q.index()] {
             return Err(Refusal::Flight);
         }
         Ok(k - 1)

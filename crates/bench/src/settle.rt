@@ -38,7 +38,7 @@ impl<S: Scheme, K: Kind> Bench<S, K> {
         ensures { (z : ℕ) × (model_of S.Scheme.meaning self.new ≡ comes K.Kind.admitted K.Kind.same (setup_of plan.now) z i q (model_of S.Scheme.meaning self.old)) }
     {
         let flight = self.inner.flights.as_slice()[i];
-        let _ = self.receive(plan, q, &flight.frame[..flight.length.min(45)]);
+        let _ = self.receive(plan, q, flight.bytes());
         self.inner.flights.land(i, q);
     }
 
@@ -49,6 +49,7 @@ impl<S: Scheme, K: Kind> Bench<S, K> {
     {
         let mut done = 0;
         while let Some(way) = self.inner.next() {
+            // Here and not in the pattern, where a proof would have two names for the place.
             let (i, q) = way;
             self.bring(plan, i, q);
             done += 1;

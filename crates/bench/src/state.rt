@@ -9,7 +9,7 @@ use crate::seats::Seats;
 use plans::Plan;
 use refusals::Refusal;
 
-// A refused making leaves its refusal in the place of the plan.
+// A refused making leaves its refusal in the place of the plan. No model: its parts have theirs, and `core_of` names them.
 #[derive(Drop)]
 pub struct Inner {
     pub plan: Result<Plan, Refusal>,

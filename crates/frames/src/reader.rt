@@ -15,7 +15,7 @@ pub fn read(bytes: &[u8]) -> Result<Frame<'_>, Refusal>
     let [item, a, b, c, d, e, f, g, h, s, links @ ..] = bytes else {
         return Err(Refusal::Frame);
     };
-    let count = *s as usize;
+    let count = usize::from(*s);
     if !(1..=8).contains(&count) || links.len() != 5 * count {
         return Err(Refusal::Frame);
     }

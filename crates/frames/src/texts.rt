@@ -8,7 +8,8 @@ use crate::writer::write_header;
 pub const LONGEST_TEXT: usize = 18;
 
 // Writes the text that the last of these processors seals to the front of the buffer, and answers its length; nothing
-// for more than eight processors. The caller lends the bytes: no heap here.
+// for more than eight processors. The caller lends the bytes: no heap here. Item and value stand apart, as
+// every caller has them.
 pub fn link_text(
     item: u8,
     value: u64,

@@ -16,7 +16,8 @@ pub fn digit(b: u8) -> Option<u8>
     }
 }
 
-// The number that digits of a base write, the most significant first.
+// The number that digits of a base write, the most significant first. Not the library's, which takes signs and small
+// letters.
 #[tactic(auto, using(crate::proofs::Reading::room_for_digit))]
 fn numeral<const BASE: u64>(digits: &[u8]) -> Option<u64>
     requires some { 0 < BASE }
@@ -80,7 +81,7 @@ fn digit_pairs(heap: Global, digits: &[u8]) -> Result<Option<Vec<u8>>, AllocErro
         bytes.push(b)?;
         rest = after;
     }
-    Ok(if rest.is_empty() { Some(bytes) } else { None })
+    Ok(rest.is_empty().then_some(bytes))
 }
 
 fn byte(high: u8, low: u8) -> Option<u8>

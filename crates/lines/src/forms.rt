@@ -37,8 +37,8 @@ fn read_words(heap: Global, mut words: Words<'_>) -> Option<Result<Line, AllocEr
     }
 }
 
-// The forms, each with its words beside the fields that they fill: one function for those of as many
-// numbers would take the line's fields by place.
+// The forms, each with its words beside the fields that they fill. As one function over the line as a closure, its clause
+// would speak of the closure and no longer of a form.
 fn bench(mut words: Words<'_>) -> Option<Line>
     ensures { option_map viewed result ≡ bench_form (ahead words.entry) }
 {

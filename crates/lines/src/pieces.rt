@@ -4,7 +4,8 @@ ghost use Rattle.std.specs.Iterator.{YieldsFirstRef, item_count};
 ghost use Rattle.lines.specs.Cut.{CutAt, is_nil, pieces};
 ghost use Rattle.lines.specs.Left.{left};
 
-// The pieces that are still to come. Bytes with k separators have k + 1 pieces.
+// The pieces that are still to come. Bytes with k separators have k + 1 pieces. No model: as an iterator it says already
+// which pieces are left.
 #[derive(Drop)]
 pub struct Pieces<'a> {
     // The bytes after the last separator that was met, None once the last piece was given.

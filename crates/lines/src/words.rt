@@ -10,7 +10,7 @@ use crate::pieces::Pieces;
 use std::alloc::{AllocError, Global};
 use std::str::{FromStr, from_utf8};
 
-// The words that are still to come. Each call takes one, also where it is of another form.
+// The words that are still to come. Each call takes one, also where it is of another form. No model: they are the pieces.
 #[derive(Drop)]
 pub struct Words<'a> {
     parts: Pieces<'a>,
@@ -84,7 +84,7 @@ impl<'a> Words<'a> {
         self.text()?.parse().ok()
     }
 
-    // Some where no word is left.
+    // Some where no word is left. No bool: a form reads it with `?`.
     pub fn end(&self) -> Option<()>
         ensures { is_some result ≡ is_nil (ahead self.now) }
     {

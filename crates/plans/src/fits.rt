@@ -7,12 +7,14 @@ use crate::plan::{Appointment, Plan, Sizes};
 use refusals::Refusal;
 use seals::Scheme;
 
-// The longest text of a frame's link: `frames::LONGEST_TEXT`, named here since a plan knows no frames.
+// The longest text of a frame's link: `frames::LONGEST_TEXT`, named here, since a plan knows no frames and would stand on
+// them for one number.
 const TEXT: usize = 18;
 
 // The most that one signer seals in a run.
 const SEALS: usize = 16;
 
+// Two questions to a scheme, a line each: with the question as a closure, one function and two calls would be no shorter.
 // Whether each signer up to n has enough left.
 fn has_room<S: Scheme>(n: u8, scheme: &S) -> bool
     ensures { result ≡ has_room n (S.Scheme.meaning scheme.now) }

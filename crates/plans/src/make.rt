@@ -25,7 +25,7 @@ impl Appointment {
     fn fits(self, n: u32) -> bool
         ensures { result ≡ item_fits n self }
     {
-        1 <= self.sender && self.sender <= n && self.reading <= 1_000_000
+        (1..=n).contains(&self.sender) && self.reading <= 1_000_000
     }
 }
 

@@ -2,7 +2,8 @@
 ghost use Rattle.std.specs.Prelude.{◌≡◌, ◌+◌, ◌≤◌, length};
 
 // The sizes of a run, as they are asked for: n processors, at most f of them faulty; a frame is under way for fewer than
-// d ticks, and a clock is at most e ticks ahead.
+// d ticks, and a clock is at most e ticks ahead. Without the agenda, which is lent: with it, sizes would have a lifetime,
+// and a script has them before its items.
 #[derive(Clone, Copy, Debug, PartialEq, Eq)]
 pub struct Sizes {
     pub n: u32,
@@ -19,7 +20,7 @@ pub struct Appointment {
 }
 
 // Sizes and an agenda that passed their tests. The items are the first `count` of the eight places: an array with its
-// length, since there is no heap here and a plan is copied.
+// length, since there is no heap here and a plan is copied, so no model either: a view forgets the unused places.
 #[derive(Clone, Copy, Debug, PartialEq, Eq)]
 pub struct Plan {
     pub n: u8,

@@ -23,7 +23,7 @@ fn is_wrong(n: u8, processors: &[u8], k: usize) -> bool
     requires { k < length processors.now }
     ensures { result ≡ is_wrong n processors.now k }
 {
-    processors[k] < 1 || processors[k] > n || is_repeat(processors, k)
+    !(1..=n).contains(&processors[k]) || is_repeat(processors, k)
 }
 
 // The first place of a number that is not 1 to n, or is a repeat.

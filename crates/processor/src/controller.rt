@@ -45,6 +45,8 @@ pub struct Processor<K> {
     kind: K,
 }
 
+// The seat is matched in each call: the contract of `as_mut` says nothing of what is left behind. No model: with one, a
+// call would open and close the processor to lend the plan beside the part.
 impl<K: Kind> Processor<K> {
     // Processor `own` in a run of n. Where that is refused, every call on it answers the refusal.
     pub fn new<S: Scheme>(

@@ -21,5 +21,5 @@ pub use controller::Processor;
 pub use examples::examples_stand;
 pub use owed::Owed;
 pub use part::{Bag, Decision, Part};
-pub use relaying::{Unsent, forgo, relay};
+pub use relaying::{LONGEST_FRAME, Unsent, forgo, relay};
 pub use windows::end;

@@ -27,7 +27,7 @@ impl Owed {
     {
         self.links()
             .iter()
-            .take(self.count as usize)
+            .take(usize::from(self.count))
             .any(|link| link.processor == p)
     }
 

@@ -4,7 +4,7 @@ ghost use Rattle.std.specs.Prelude.{◌≡◌, [], ◌∷◌};
 
 use frames::Link;
 
-// Plain fields with their count: no heap here.
+// Plain fields with their count, and no array: a token of numbers, by the rules of the kit.
 pub struct Owed {
     pub(crate) item: u8,
     pub(crate) value: u64,

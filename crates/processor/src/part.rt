@@ -16,7 +16,8 @@ pub enum Bag {
     Closed(Decision),
 }
 
-// The bags lie in an array: no heap here. The plan and the kind are lent to each call: a bench has one for all its parts.
+// The bags lie in an array, which each call indexes: no heap here, and a bag that is lent would want a clause of its own.
+// The plan and the kind are lent to each call: a bench has one for all its parts.
 #[derive(Clone, Copy, Debug, PartialEq, Eq)]
 pub struct Part {
     pub own: u8,

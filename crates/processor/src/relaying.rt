@@ -10,6 +10,9 @@ use frames::{LONGEST_TEXT, Link, link_text, write};
 use refusals::Refusal;
 use seals::Scheme;
 
+// A frame of seven links, the longest that is relayed.
+pub const LONGEST_FRAME: usize = 45;
+
 // A refusal to relay, with the broadcast, which is still owed.
 pub struct Unsent {
     pub refusal: Refusal,
@@ -73,13 +76,17 @@ impl Owed {
     }
 
     // Seals and writes; row 30 for more than six links, after which nothing is owed.
-    fn send<S: Scheme>(&self, scheme: &mut S, out: &mut [u8; 45]) -> Result<usize, Refusal>
+    fn send<S: Scheme>(
+        &self,
+        scheme: &mut S,
+        out: &mut [u8; LONGEST_FRAME],
+    ) -> Result<usize, Refusal>
         ensures { (z : ℕ) × ((result, S.Scheme.meaning scheme.new, out.new) ≡ sent z self.now (S.Scheme.meaning scheme.old) out.old) × IfOk result (λ n. decode (take n out.new) ≡ Ok (frame_of self.now z)) }
     {
         if self.count > 6 {
             return Err(Refusal::Frame);
         }
-        let count = self.count as usize + 1;
+        let count = usize::from(self.count) + 1;
         let numbers = self.own_numbers();
         let seal = self.seal(&numbers[..count], scheme)?;
         let links = self.own_links(seal);
@@ -88,8 +95,12 @@ impl Owed {
 }
 
 // Seals the broadcast, writes its frame to the front of the buffer and answers the frame's length.
-// A refusal alters nothing, and hands the broadcast back.
-pub fn relay<S: Scheme>(owed: Owed, scheme: &mut S, out: &mut [u8; 45]) -> Result<usize, Unsent>
+// A refusal alters nothing, and hands the broadcast back. The caller lends the bytes: no heap here.
+pub fn relay<S: Scheme>(
+    owed: Owed,
+    scheme: &mut S,
+    out: &mut [u8; LONGEST_FRAME],
+) -> Result<usize, Unsent>
     ensures { (z : ℕ) × ((result, S.Scheme.meaning scheme.new, out.new) ≡ relayed z owed (S.Scheme.meaning scheme.old) out.old) × IfOk result (λ n. decode (take n out.new) ≡ Ok (frame_of owed z)) }
 {
     match owed.send(scheme, out) {

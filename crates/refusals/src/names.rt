@@ -1,5 +1,6 @@
 // The names of the rows, for a host that shows them. On the rows of the table the two calls are inverse.
-// No Option: by the rules a row that is not there has the number 0 and the empty name.
+// No Option and no list to search: by the rules a row that is not there has the number 0 and the empty name, and both ways
+// are literal cases.
 ghost use Rattle.std.specs.Prelude.{◌≡◌, [], ◌≢◌};
 ghost use Rattle.refusals.specs.Table.{named, numbered};
 

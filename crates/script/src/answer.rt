@@ -7,7 +7,7 @@ use processor::Decision;
 use refusals::Refusal;
 use std::fmt;
 
-// Five cases by name, since each prints in its own way.
+// No Result: a dropped frame is neither granted nor refused.
 #[derive(Clone, Copy, Debug, PartialEq, Eq)]
 pub enum Answer {
     Done,

@@ -24,13 +24,16 @@ use std::array;
 // The most bytes that a script has.
 const LONGEST: usize = 16_384;
 
+// Row 60, as `Answer::Refused` prints it.
+const REFUSED: &str = "no 60\n";
+
 // The answer to what stands after the last newline.
 fn unended(last: &[u8]) -> &'static str
     ensures { result.now ≡ unended last.now }
 {
     match last {
         [] => "",
-        _ => "no 60\n",
+        _ => REFUSED,
     }
 }
 
@@ -78,7 +81,7 @@ impl<'a> Player<'a> {
         ensures { IfOk result (λ _. string_bytes self.new.out ≡ string_bytes self.old.out ++ out_of_order (left self.old.lines)) }
     {
         while self.next_line()?.is_some() {
-            self.out.push_str("no 60\n")?;
+            self.out.push_str(REFUSED)?;
         }
         Ok(())
     }
@@ -87,7 +90,7 @@ impl<'a> Player<'a> {
     fn report<S: Scheme, K: Kind>(&mut self, bench: &Bench<S, K>) -> Result<(), AllocError>
         ensures { IfOk result (λ _. string_bytes self.new.out ≡ string_bytes self.old.out ++ report (model_of S.Scheme.meaning bench.now)) }
     {
-        for item in 1..9 {
+        for item in 1..=8 {
             if let Ok(report) = bench.report(item) {
                 let line = ItemLine {
                     item,
@@ -172,7 +175,7 @@ impl<'a> Player<'a> {
         while let Some(line) = self.next_line()? {
             match setting.hear(lines::read(self.heap, line)?)? {
                 Heard::Kept => {}
-                Heard::OutOfOrder => self.out.push_str("no 60\n")?,
+                Heard::OutOfOrder => self.out.push_str(REFUSED)?,
                 Heard::Start(sizes, kind, scheme) => {
                     return self.start(sizes, setting.agenda.as_slice(), kind, scheme);
                 }
@@ -187,7 +190,7 @@ pub fn play(heap: Global, text: &[u8]) -> Result<String, AllocError>
     ensures { IfOk result (λ out. Transcript text.now (string_bytes out)) }
 {
     if text.len() > LONGEST {
-        return String::from_str(heap, "no 60\n");
+        return String::from_str(heap, REFUSED);
     }
     let mut player = Player {
         heap,

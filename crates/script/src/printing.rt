@@ -9,7 +9,7 @@ use refusals::Refusal;
 use std::fmt;
 
 // A refusal's row, and the link or flight told, if any.
-#[derive(Clone, Copy)]
+#[derive(Clone, Copy, Debug, PartialEq, Eq)]
 pub struct Row(pub Refusal);
 
 impl fmt::Display for Row {
@@ -25,7 +25,7 @@ impl fmt::Display for Row {
 }
 
 // What a processor decided, if it did. A value has sixteen digits.
-#[derive(Clone, Copy)]
+#[derive(Clone, Copy, Debug, PartialEq, Eq)]
 pub struct Word(pub Option<Decision>);
 
 impl fmt::Display for Word {
@@ -42,7 +42,7 @@ impl fmt::Display for Word {
 }
 
 // The line of an item.
-#[derive(Clone, Copy)]
+#[derive(Clone, Copy, Debug, PartialEq, Eq)]
 pub struct ItemLine<'a> {
     pub item: u32,
     pub report: &'a Report,

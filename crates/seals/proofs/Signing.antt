@@ -114,6 +114,15 @@ signs m p t z = go (known p) (leb (length t) m.longest) (seal_of m.triples p t) 
     go true true (Some s) n ek eo en a h = again s a eo h
     go true true None n ek eo en a h = room n (eqb n 0) ek en refl a h
 
+-- a scheme that refuses to seal stays as it was
+pub refused_same : (m : Meaning) (p : ℕ) (t : List ℕ) (z : ℕ) (e : Refusal) → answered m p t z ≡ Err e → signed m p t z ≡ m
+refused_same m p t z e h = go (signs m p t z)
+  where
+    go : Signs m p t z → signed m p t z ≡ m
+    go (refused r a same) = same
+    go (again s a o same) = same
+    go (anew a k l new) = let is : Err e ≡ Ok z = sym h ∙ a in absurd (cc)
+
 -- the triples after signing are those before, and perhaps more with the new seal
 pub signed_grows : (m : Meaning) (p : ℕ) (t : List ℕ) (z : ℕ) → (us : List Triple) × ((signed m p t z).triples ≡ m.triples ++ us) × AllByRecursion (λ e. e.seal ≡ z) us
 signed_grows m p t z = go (signs m p t z)

@@ -13,7 +13,7 @@ pub const EACH: usize = 64;
 pub const PLACES: usize = SIGNERS * EACH;
 
 // The first `used` entries are the issued ones, in order of issue; signer p has `left[p - 1]` left.
-// Arrays with a length: no heap here, and a book is copied.
+// Arrays with a length: no heap here, and a book is copied, so no model either: a view forgets the unused places.
 #[derive(Clone, Copy, Debug, PartialEq, Eq)]
 pub struct Book {
     pub entries: [Entry; PLACES],

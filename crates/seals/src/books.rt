@@ -60,12 +60,12 @@ impl Book {
         self.issued().iter().filter(|e| e.signer == signer).count()
     }
 
-    // How many seals the signer may still ask for.
+    // How many seals the signer may still ask for. By the rules another signer has none left: no Option.
     pub fn left(&self, signer: u8) -> usize
         ensures { result ≡ left_of (book_of self.now) signer }
     {
         match signer {
-            1..=8 => self.left[signer as usize - 1] as usize,
+            1..=8 => usize::from(self.left[signer as usize - 1]),
             _ => 0,
         }
     }

@@ -4,7 +4,8 @@ ghost use Rattle.std.specs.Prelude.{◌^◌, ◌<◌, ◌≤◌};
 // The longest text.
 pub const LONGEST: usize = 24;
 
-// The text is the first `size` bytes of `text`: an array with its length, since a book has no heap.
+// The text is the first `size` bytes of `text`: an array with its length, since a
+// book has no heap; copied, and so without a model.
 #[derive(Clone, Copy, Debug, PartialEq, Eq)]
 pub struct Entry {
     pub signer: u8,
