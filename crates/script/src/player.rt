@@ -27,7 +27,7 @@ const LONGEST: usize = 16_384;
 // Row 60, as `Answer::Refused` prints it.
 const REFUSED: &str = "no 60\n";
 
-// The answer to what stands after the last newline.
+// The answer to what stands after the last newline, and no Option where there is nothing: it is printed as it is.
 fn unended(last: &[u8]) -> &'static str
     ensures { result.now ≡ unended last.now }
 {
