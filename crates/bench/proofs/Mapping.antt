@@ -20,9 +20,12 @@ module _ {F A B : Type 0} (g : Mut F (A × Unit {0}) B) (f : F) (h : A → B) (k
       by rest (inr (inl l)) = rest (k _ _ _ called).0 m.6 j d e (omega arith) (omega arith)
       by rest (inr (inr l)) = absurd (omega arith)
 
-  pub mapped : (n : ℕ) (xs : List A) (ys : List B) (d : A) → length xs ≡ n → IsMapOf g f xs ys n → ys ≡ map h xs
-  mapped n xs ys d size m = same_lists ys (map h xs) (m.long ∙ sym size ∙ sym (length-map xs h))
-      (λ j e l. each n 0 f xs ys refl m.each j d e (omega arith) (omega (arith, m.long)) ∙ sym (get_or-map h xs j d e (omega (arith, m.long))))
+  pub mapped : (n : ℕ) (xs : List A) (ys : List B) → length xs ≡ n → IsMapOf g f xs ys n → ys ≡ map h xs
+  mapped n [] ys size m = same_lists ys [] (m.long ∙ sym size) (λ j e l. absurd (omega (arith, m.long)))
+  mapped n (x ∷ rest) ys size m =
+      let xs = x ∷ rest in
+      same_lists ys (map h xs) (m.long ∙ sym size ∙ sym (length-map xs h))
+      (λ j e l. each n 0 f xs ys refl m.each j x e (omega arith) (omega (arith, m.long)) ∙ sym (get_or-map h xs j x e (omega (arith, m.long))))
 
 -- a list by its elements, from place i on
 abbrev pub listed : {X : Type 0} → List X → X → ℕ → ℕ → List X

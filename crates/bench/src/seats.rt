@@ -118,10 +118,10 @@ impl Seats {
         Some(Place::new(index))
     }
 
-    // The decisions recorded for an item, that of processor p at p - 1.
+    // The decisions recorded for an item, that of processor p at p - 1. The seats are lent: each is some 200 bytes.
     pub fn decisions(&self, item: u32) -> [Option<Decision>; 8]
         ensures { result ≡ decisions_in self.now.parts item }
     {
-        self.seats.map(|seat| seat.part.decision(item))
+        self.seats.each_ref().map(|seat| seat.part.decision(item))
     }
 }

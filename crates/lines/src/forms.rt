@@ -92,9 +92,13 @@ fn seal(heap: Global, mut words: Words<'_>) -> Option<Result<Line, AllocError>>
     ensures { IfOk (option_transpose result) (λ o. option_map viewed o ≡ seal_form (ahead words.entry)) }
 {
     let processor = words.number()?;
-    let text = words.byte_string(heap)?;
+    // Want of memory goes before a word too many.
+    let text = match words.byte_string(heap)? {
+        Ok(text) => text,
+        Err(error) => return Some(Err(error)),
+    };
     words.end()?;
-    Some(text.map(|text| Line::Seal { processor, text }))
+    Some(Ok(Line::Seal { processor, text }))
 }
 
 fn open(mut words: Words<'_>) -> Option<Line>
@@ -114,9 +118,13 @@ fn inject(heap: Global, mut words: Words<'_>) -> Option<Result<Line, AllocError>
     ensures { IfOk (option_transpose result) (λ o. option_map viewed o ≡ inject_form (ahead words.entry)) }
 {
     let [from, to] = words.numbers::<2>()?;
-    let bytes = words.byte_string(heap)?;
+    // Want of memory goes before a word too many.
+    let bytes = match words.byte_string(heap)? {
+        Ok(bytes) => bytes,
+        Err(error) => return Some(Err(error)),
+    };
     words.end()?;
-    Some(bytes.map(|bytes| Line::Inject { from, to, bytes }))
+    Some(Ok(Line::Inject { from, to, bytes }))
 }
 
 fn deliver(mut words: Words<'_>) -> Option<Line>

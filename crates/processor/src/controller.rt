@@ -105,6 +105,9 @@ impl<K: Kind> Processor<K> {
     pub fn decision(&self, item: u32) -> Result<Option<Decision>, Refusal>
         ensures { result ≡ recorded item (controller_of self.now) }
     {
-        self.seat.map(|seat| seat.part.decision(item))
+        match &self.seat {
+            Ok(seat) => Ok(seat.part.decision(item)),
+            Err(refusal) => Err(*refusal),
+        }
     }
 }

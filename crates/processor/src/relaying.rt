@@ -53,12 +53,21 @@ impl Owed {
         links
     }
 
-    // The numbers of these links.
+    // The numbers of these links. Written out: an array's `map` moves each link in and out once more.
     fn own_numbers(&self) -> [u8; 7]
         requires { self.now.count ≤ 6 }
         ensures { take (self.now.count + 1) result ≡ own_numbers self.now }
     {
-        self.own_links(0).map(|link| link.processor)
+        let [a, b, c, d, e, f, g] = self.own_links(0);
+        [
+            a.processor,
+            b.processor,
+            c.processor,
+            d.processor,
+            e.processor,
+            f.processor,
+            g.processor,
+        ]
     }
 
     // Has the own link sealed, which is the last of these processors. At most eight numbers always make a text.

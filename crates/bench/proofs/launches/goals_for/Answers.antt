@@ -6,4 +6,4 @@ use Rattle.bench.proofs.Mapping.{mapped}
 use Rattle.bench.proofs.launches.goals_for.Goals as goal
 
 pub returns : goal.returns
-returns c = mapped _ _ (goes_to (setup_of c.args.plan.now) c.args.owed.now) (λ x y q k. search (rules, tests)) 8 (1 ∷ 2 ∷ 3 ∷ 4 ∷ 5 ∷ 6 ∷ 7 ∷ 8 ∷ []) c.map.result 0 refl c.map.ensures.items
+returns c = mapped _ _ (goes_to (setup_of c.args.plan.now) c.args.owed.now) (λ x y q k. search (rules, tests)) 8 (1 ∷ 2 ∷ 3 ∷ 4 ∷ 5 ∷ 6 ∷ 7 ∷ 8 ∷ []) c.map.result refl c.map.ensures.items
