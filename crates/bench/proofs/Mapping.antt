@@ -1,10 +1,10 @@
 -- What an array's `map` gives where each call answers by a function.
-use Rattle.std.proofs.Common.{◌≡◌, ℕ, zero, suc, ◌+◌, ◌<◌, ◌≤◌, ◌⊎◌, inl, inr, List, [], ◌∷◌, length, drop, get_or, sym, refl, ap, ◌∙◌, subst, arith}
+use Rattle.std.proofs.Common.{◌≡◌, ℕ, zero, suc, ◌+◌, ◌<◌, ◌≤◌, ◌⊎◌, inl, inr, List, [], ◌∷◌, length, get_or, sym, refl, ap, ◌∙◌, subst, arith}
 use Rattle.std.specs.Prelude.{map}
 use Rattle.std.specs.Array.{IsMapOf, MapsFrom}
 use Rattle.std.specs.Fn.{Called}
 use Rattle.std.proofs.lemmas.Bool.{cases_order}
-use Rattle.std.proofs.lemmas.List.{same_lists, get_or-map, length-map, drop_all, drop_more}
+use Rattle.std.proofs.lemmas.List.{same_lists, get_or-map, length-map}
 use denote.Param.Members.{Mut}
 
 module _ {F A B : Type 0} (g : Mut F (A × Unit {0}) B) (f : F) (h : A → B) (k : (x : A) (y : B) (q : F) → Called g f (x, tt) y q → (q ≡ f) × (y ≡ h x)) where
@@ -26,12 +26,3 @@ module _ {F A B : Type 0} (g : Mut F (A × Unit {0}) B) (f : F) (h : A → B) (k
       let xs = x ∷ rest in
       same_lists ys (map h xs) (m.long ∙ sym size ∙ sym (length-map xs h))
       (λ j e l. each n 0 f xs ys refl m.each j x e (omega arith) (omega (arith, m.long)) ∙ sym (get_or-map h xs j x e (omega (arith, m.long))))
-
--- a list by its elements, from place i on
-abbrev pub listed : {X : Type 0} → List X → X → ℕ → ℕ → List X
-listed xs d i zero = []
-listed xs d i (suc n) = get_or xs i d ∷ listed xs d (i + 1) n
-
-pub listed_all : {X : Type 0} (xs : List X) (d : X) (n i : ℕ) → length xs ≡ i + n → drop i xs ≡ listed xs d i n
-listed_all xs d zero i e = drop_all i xs (omega arith)
-listed_all xs d (suc n) i e = drop_more xs i d (omega arith) ∙ ap (λ ys. get_or xs i d ∷ ys) (listed_all xs d n (i + 1) (omega arith))

@@ -118,10 +118,21 @@ impl Seats {
         Some(Place::new(index))
     }
 
-    // The decisions recorded for an item, that of processor p at p - 1. The seats are lent: each is some 200 bytes.
+    // The decisions recorded for an item, that of processor p at p - 1. Written out, each seat lent: an array's `map` moves
+    // all that it is given in and out once more.
     pub fn decisions(&self, item: u32) -> [Option<Decision>; 8]
         ensures { result ≡ decisions_in self.now.parts item }
     {
-        self.seats.each_ref().map(|seat| seat.part.decision(item))
+        let [a, b, c, d, e, f, g, h] = &self.seats;
+        [
+            a.part.decision(item),
+            b.part.decision(item),
+            c.part.decision(item),
+            d.part.decision(item),
+            e.part.decision(item),
+            f.part.decision(item),
+            g.part.decision(item),
+            h.part.decision(item),
+        ]
     }
 }

@@ -58,16 +58,18 @@ impl Owed {
         requires { self.now.count ≤ 6 }
         ensures { take (self.now.count + 1) result ≡ own_numbers self.now }
     {
-        let [a, b, c, d, e, f, g] = self.own_links(0);
-        [
+        let [a, b, c, d, e, f] = self.links();
+        let mut numbers = [
             a.processor,
             b.processor,
             c.processor,
             d.processor,
             e.processor,
             f.processor,
-            g.processor,
-        ]
+            self.own,
+        ];
+        numbers[self.count as usize] = self.own;
+        numbers
     }
 
     // Has the own link sealed, which is the last of these processors. At most eight numbers always make a text.
